@@ -16,7 +16,7 @@ use Rattle.ck_commands.specs.Run.{Reports, ShowsNone, Tells}
 use Rattle.ck_commands.specs.declared.report.ExitStatus.TheVariants as exit
 use Rattle.ck_commands.specs.declared.report.Report as made
 use Rattle.ck_commands.proofs.Printing.{none_failed, some_failed}
-use Rattle.ck_commands.specs.Run.{Reported}
+use Rattle.ck_commands.specs.Run.{IsReportOf}
 
 -- the report that was made is the one that is asked for
 pub report_is : (report : Report) (x : made.Report) → IsReport report x → report_made (Ok x) ≡ report
@@ -82,7 +82,7 @@ module _ {A : Type 0} (c : Command) (settings : Settings) (audited : A → Audit
   failure (Err Memory) (Ok x) is k = cc
 
   pub audit_beside_is_reported : (answer : Result A Trouble) (m : Result made.Report AllocError) (i j : Input) → IfOk m (ReportsAnswer P answer) → OfReads i j (Holds answer)
-      → GoodAtEnd j (alone audited answer) → CountsFailure (is_failed_read answer) i.failed_calls j.failed_calls → Reported c (report_made m) i j
+      → GoodAtEnd j (alone audited answer) → CountsFailure (is_failed_read answer) i.failed_calls j.failed_calls → IsReportOf c (report_made m) i j
   audit_beside_is_reported answer m i j is h end counts = record {
     answer = λ all. of_reads {P = Holds answer} {Q = λ bytes. IsReported bytes (report_made m)} i j h (λ xs ys k. reports answer m xs ys is (none_failed _ _ _ counts all) k);
     tells = λ other. tells answer m i j is other h;

@@ -16,7 +16,7 @@ use Rattle.ck_commands.specs.Output.{Report}
 use Rattle.ck_commands.specs.Verdicts.{verdict_report}
 use Rattle.ck_commands.specs.declared.report.ExitStatus.TheVariants as exit
 use Rattle.ck_commands.proofs.Printing.{IsOne, audit_reported, failed_answer, first_reported, none_failed, read_failed_reported, some_failed}
-use Rattle.ck_commands.specs.Run.{Reported}
+use Rattle.ck_commands.specs.Run.{IsReportOf}
 
 not_done : (n : ℕ) (f : Finding) → (verdict_report (Found n f)).status ≡ exit.Done → ⊥
 not_done n (IsBad f) e = cc
@@ -48,7 +48,7 @@ no_fault_of settings answer i j h more =
     let failed = failed_answer answer (some_failed _ _ _ h.failures more) in
     reads_weaker {P = IsAuditOf settings answer} {Q = ShowNoFault settings} i j h.heard (λ xs ys a. a.read_failed failed)
 
-pub audit_is_reported : (settings : Settings) (answer : Result Audited Trouble) (r : Report) (i j : Input) → Audits settings answer i j → IsOne (verdict_report (answer_of_audit answer)) r → Reported (ask_audit settings) r i j
+pub audit_is_reported : (settings : Settings) (answer : Result Audited Trouble) (r : Report) (i j : Input) → Audits settings answer i j → IsOne (verdict_report (answer_of_audit answer)) r → IsReportOf (ask_audit settings) r i j
 audit_is_reported settings answer r i j h one = record {
   answer = λ reads. first_reported verdict_report refl settings i j answer r (told_of settings answer i j h) (none_failed _ _ _ h.failures reads) one;
   tells = λ other. audit_reported verdict_report refl settings i j answer r (λ t. refl) one other h.heard;

@@ -29,7 +29,7 @@ use Rattle.ck_commands.specs.Verdicts.{verdict_report}
 use Rattle.ck_commands.specs.declared.report.ExitStatus.TheVariants as exit
 use Rattle.ck_commands.specs.declared.report.Report as made
 use Rattle.ck_commands.proofs.AuditsBeside.{Shows, alone, audit_beside_is_reported, report_is}
-use Rattle.ck_commands.specs.Run.{Reported}
+use Rattle.ck_commands.specs.Run.{IsReportOf}
 
 -- an answer that isn't Good has the same report
 same_report : (form : CaseForm) (first : FirstFault) (a : Answer) → a ≡ answer_for first → ((es : List Envelope) → a ≡ answer_for (NoFault es) → ⊥) → verdict_report a ≡ cases_report form first
@@ -92,7 +92,7 @@ at_end_alone j (Ok a) h = h
 at_end_alone j (Err t) h = h
 
 pub cases_are_reported : (settings : Settings) (form : CaseForm) (answer : Result AuditedCases Trouble) (m : Result made.Report AllocError) (i j : Input) → IfOk m (ReportsCases form answer) → OfReads i j (IsCasesAuditOf settings answer)
-    → GoodAtEnd j (audited_in answer) → CountsFailure (is_failed_read answer) i.failed_calls j.failed_calls → Reported (ask_cases settings form) (report_made m) i j
+    → GoodAtEnd j (audited_in answer) → CountsFailure (is_failed_read answer) i.failed_calls j.failed_calls → IsReportOf (ask_cases settings form) (report_made m) i j
 cases_are_reported settings form answer m i j is h end counts =
     audit_beside_is_reported (ask_cases settings form) settings (λ a. a.audited) (λ a r. ReportsVerdict form a.listing a.attempts a.audited a.audited.verdict r) (IsCasesAuditOf settings) (cases_show settings form)
     answer m i j is h (at_end_alone j answer end) counts

@@ -19,7 +19,7 @@ use Rattle.ck_commands.specs.declared.text_input.TextFault.TheVariants as text
 use Rattle.ck_commands.specs.declared.command_feature.FeatureFault.{FeatureFault}
 use Rattle.ck_commands.specs.declared.command_feature.FeatureFault.TheVariants.{Memory, NotUtf8, ReadFailed, Refused}
 use Rattle.ck_commands.proofs.Printing.{IsOne, none_failed, some_failed}
-use Rattle.ck_commands.specs.Run.{Reported}
+use Rattle.ck_commands.specs.Run.{IsReportOf}
 use Rattle.ck_commands.proofs.TextLemmas.{failed_fault, input_of_whole, other_fault}
 
 -- the parser's refusal of a text is that of its bytes
@@ -44,7 +44,7 @@ made P r (inl h) other = h
 made P r (inr e) other = absurd (other (ap (λ (x : Report). x.status) e))
 
 pub text_is_reported : (uri t : List ℕ) (r : Report) (i j : Input) → OfWhole i j (λ bytes. IsTextOf bytes t) → j.failed_calls ≡ i.failed_calls
-    → ReportsCompiled uri t r ⊎ (r ≡ trouble_report trouble.Memory) → Reported (ask_compile uri) r i j
+    → ReportsCompiled uri t r ⊎ (r ≡ trouble_report trouble.Memory) → IsReportOf (ask_compile uri) r i j
 text_is_reported uri t r i j is none one =
     let heard = input_of_whole {P = λ bytes. IsTextOf bytes t} i j is in
     record {
@@ -91,7 +91,7 @@ fault_not_done NotUtf8 r (inl e) done = let no : exit.Trouble ≡ exit.Done = sy
 fault_not_done Memory r (inl e) done = let no : exit.Trouble ≡ exit.Done = sym (ap (λ (x : Report). x.status) e) ∙ done in cc
 
 pub fault_is_reported : (uri : List ℕ) (f : TextFault) (r : Report) (i j : Input) → OfInput i j (λ bytes. HasTextFault bytes f) → CountsFailure (text_failed {A = ℕ} (Err f)) i.failed_calls j.failed_calls
-    → IsOne (fault_report (feature_fault_of_text f)) r → Reported (ask_compile uri) r i j
+    → IsOne (fault_report (feature_fault_of_text f)) r → IsReportOf (ask_compile uri) r i j
 fault_is_reported uri f r i j is counts one = record {
   answer = λ all.
       input_weaker {P = λ bytes. HasTextFault bytes f} {Q = λ bytes. ReportsCompiled uri bytes r ⊎ (r ≡ trouble_report trouble.Memory)} i j is
@@ -154,7 +154,7 @@ module _ (feature : Result Document FeatureFault) (r : Report) (i j : Input) whe
       go (Err f) counts one = absurd (fault_not_done f r one done)
 
   pub feature_is_reported : (is_failed_feature_read feature ≡ false → OfInput i j (λ bytes. IsFeatureOf bytes feature)) → ((d : Document) → feature ≡ Ok d → j.is_over ≡ true)
-      → ((read : List ℕ) × Hears i j read) → CountsFailure (is_failed_feature_read feature) i.failed_calls j.failed_calls → IsOne (parse_report feature) r → Reported ask_parse r i j
+      → ((read : List ℕ) × Hears i j read) → CountsFailure (is_failed_feature_read feature) i.failed_calls j.failed_calls → IsOne (parse_report feature) r → IsReportOf ask_parse r i j
   feature_is_reported is over heard counts one = record {
     answer = λ all.
         input_weaker {P = λ bytes. IsFeatureOf bytes feature} {Q = λ bytes. Reports ask_parse bytes r ⊎ (r ≡ trouble_report trouble.Memory)} i j (is (none_failed _ _ _ counts all))

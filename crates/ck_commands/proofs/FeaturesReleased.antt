@@ -21,7 +21,7 @@ use Rattle.cm_stream.specs.Texts.{Utf8}
 use Rattle.cm_stream.proofs.Lists.{all_here}
 use Rattle.cm_stream.proofs.Refuted.{cut_at}
 use Rattle.feature_paths.specs.FeaturePaths.{FindsFiles}
-use Rattle.files.specs.Looks.{Looked}
+use Rattle.files.specs.Looks.{PathLook}
 use Rattle.files.specs.Openings.{Opening}
 use Rattle.gk_pickle.specs.Pickles.{pickles as compiled}
 use Rattle.ck_command_line.specs.CommandLine.{FeaturesGate}
@@ -174,7 +174,7 @@ module _ (s : Settings) (asked : Conditions) where
 
 -- ---- the command
 
-module _ (g : FeaturesGate) (code : ℕ) (old new : List Opening) (seen later : List Looked) (i j : Input) (before after : Output) where
+module _ (g : FeaturesGate) (code : ℕ) (old new : List Opening) (seen later : List PathLook) (i j : Input) (before after : Output) where
   -- with status 0 the files were read, and all runs were released
   zero_is_asked : GatesFeatures g code old new seen later i j before after → code ≡ 0 → (r : Report) × IsFeaturesReport g old new seen later i j r × (r.status ≡ exit.Done)
   zero_is_asked (r, which, delivered) zero =
@@ -226,7 +226,7 @@ module _ (g : FeaturesGate) (code : ℕ) (old new : List Opening) (seen later : 
   features_unread gates zero = let all = zero_is_asked gates zero in kept_of all.0 all.1 all.2
 
 -- of a reader of which nothing was heard before
-pub features_from_start : (g : FeaturesGate) (old new : List Opening) (seen later : List Looked) (i j : Input) → i.heard ≡ [] → i.is_over ≡ false → i.failed_calls ≡ 0 → ReleasesFeatures g old new seen later i j
+pub features_from_start : (g : FeaturesGate) (old new : List Opening) (seen later : List PathLook) (i j : Input) → i.heard ≡ [] → i.is_over ≡ false → i.failed_calls ≡ 0 → ReleasesFeatures g old new seen later i j
     → GaveFeatures g old new seen later j
 features_from_start g old new seen later i j unheard before unfailed each = (
   i.to_come,

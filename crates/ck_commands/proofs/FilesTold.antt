@@ -19,7 +19,7 @@ use Rattle.feature_paths.specs.FeaturePaths.{FindsFiles}
 use Rattle.feature_paths.specs.Shown.{faulty}
 use Rattle.feature_paths.specs.declared.paths.FaultyPath.{FaultyPath}
 use Rattle.feature_paths.specs.declared.paths.PathTrouble.TheVariants as trouble
-use Rattle.files.specs.Looks.{Looked}
+use Rattle.files.specs.Looks.{PathLook}
 use Rattle.files.specs.Openings.{Opening}
 use Rattle.ck_commands.specs.FeatureFiles.{FeatureFile, ReadsFiles, asked_once, faulty_report}
 use Rattle.ck_commands.specs.FilesAsked.{AsksFiles, IsFeaturesReport, files_text, last_report}
@@ -178,11 +178,11 @@ reports_asked s asked found runs before after i j old new parts r counts h done 
     (h.readings, parts, h.report, inr (done, asks_files s asked found h.readings old new parts r counts unmarked has (h.done done) last))
 
 -- the files were found and read, and this is reported of them
-pub features_told : (g : FeaturesGate) (read found : List made.FeatureFile) → found ≡ read → (old mid new : List Opening) (seen between later : List Looked) (i j : Input) (r : Report) → GivesFeatures g.features old mid seen between (map file_of read) → later ≡ between
+pub features_told : (g : FeaturesGate) (read found : List made.FeatureFile) → found ≡ read → (old mid new : List Opening) (seen between later : List PathLook) (i j : Input) (r : Report) → GivesFeatures g.features old mid seen between (map file_of read) → later ≡ between
     → ReportsAsked g.settings g.asked (map file_of found) g.runs mid new i j r → IsFeaturesReport g old new seen later i j r
 features_told g read found are old mid new seen between later i j r gives same reports = inr (
   gives.0,
-  subst (λ (l : List Looked). FindsFiles g.features seen l gives.0) (sym same) gives.1,
+  subst (λ (l : List PathLook). FindsFiles g.features seen l gives.0) (sym same) gives.1,
   inr (record {
     files = map file_of found;
     between = mid;
@@ -195,7 +195,7 @@ features_told g read found are old mid new seen between later i j r gives same r
 )
 
 -- they weren't, and no run was read
-pub faulty_told : (g : FeaturesGate) (wrong : FaultyPath) (old new : List Opening) (seen later : List Looked) (i : Input) (r : Report) → TellsFeatures g.features old new seen later (trouble.Faulty wrong) → r ≡ faulty_report (faulty wrong)
+pub faulty_told : (g : FeaturesGate) (wrong : FaultyPath) (old new : List Opening) (seen later : List PathLook) (i : Input) (r : Report) → TellsFeatures g.features old new seen later (trouble.Faulty wrong) → r ≡ faulty_report (faulty wrong)
     → IsFeaturesReport g old new seen later i i r
 faulty_told g wrong old new seen later i r (inl h) is = inl (record {
   wrong = faulty wrong;

@@ -30,7 +30,7 @@ use Rattle.ck_commands.specs.Run.{Reports}
 use Rattle.ck_commands.specs.declared.report.ExitStatus.TheVariants as exit
 use Rattle.ck_commands.specs.declared.report.Report as made
 use Rattle.ck_commands.proofs.AuditsBeside.{Shows, alone, audit_beside_is_reported, report_is}
-use Rattle.ck_commands.specs.Run.{Reported}
+use Rattle.ck_commands.specs.Run.{IsReportOf}
 
 -- by what is answered
 finding_first : (first : FirstFault) (n : ℕ) (f : Finding) → Found n f ≡ answer_for first → At n f ≡ first
@@ -124,7 +124,7 @@ at_end_alone j (Ok a) h = h
 at_end_alone j (Err t) h = h
 
 pub gate_is_reported : (settings : Settings) (asked : Conditions) (answer : Result AuditedRelease Trouble) (m : Result made.Report AllocError) (i j : Input) → IfOk m (ReportsRelease asked.is_part answer) → OfReads i j (IsReleaseAuditOf settings asked answer)
-    → GoodAtEnd j (audited_in answer) → CountsFailure (is_failed_read answer) i.failed_calls j.failed_calls → Reported (ask_gate settings asked) (report_made m) i j
+    → GoodAtEnd j (audited_in answer) → CountsFailure (is_failed_read answer) i.failed_calls j.failed_calls → IsReportOf (ask_gate settings asked) (report_made m) i j
 gate_is_reported settings asked answer m i j is h end counts =
     audit_beside_is_reported (ask_gate settings asked) settings (λ a. a.audited) (λ a r. ReportsHeld asked.is_part a.found a.hold (string_bytes a.reasons) a.audited a.audited.verdict r) (IsReleaseAuditOf settings asked) (gate_shows settings asked)
     answer m i j is h (at_end_alone j answer end) counts

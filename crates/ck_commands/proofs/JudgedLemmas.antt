@@ -23,7 +23,7 @@ use Rattle.cm_stream.specs.ReleasedRuns.{EachSourceIsCompiled}
 use Rattle.cm_stream.proofs.Released.{released_is_not_held, released_ran}
 use Rattle.cm_stream.proofs.Streams.{read_is_told}
 use Rattle.cm_audit.specs.Audit.{GoodAtEnd}
-use Rattle.cm_ran.specs.Marks.{AlsoRan, Marked, marked_texts, has_run}
+use Rattle.cm_ran.specs.Marks.{AlsoRan, MarksWhatRan, marked_texts, has_run}
 use Rattle.cm_ran.specs.RunAt.{is_run_at}
 use Rattle.cm_ran.specs.declared.marks.Marks.{Marks}
 use Rattle.cm_audit_release.specs.PartAudit.{IsMarkedBy, IsPartAuditOf, is_unheld}
@@ -57,7 +57,7 @@ counts_given (Err e) counts is done = absurd (no_trouble Memory (trouble_report 
 module _ (s : Settings) (asked : Conditions) (old new : Marks) where
   -- the bytes are a released stream, whose envelopes are marked and counted
   abbrev IsMarkedStream : GateCounts → List ℕ → Type 0
-  IsMarkedStream counts xs = (es : List Envelope) × IsReleasedAs s asked es xs × Marked es old new × (counts ≡ run_counts asked s.policy es)
+  IsMarkedStream counts xs = (es : List Envelope) × IsReleasedAs s asked es xs × MarksWhatRan es old new × (counts ≡ run_counts asked s.policy es)
 
   of_good : (xs : List ℕ) (success : Bool) (found : ReleaseCounts) (held : Option Hold) (reasons : List ℕ) (counts : Counts) → held ≡ None → CountsGood s asked success found held reasons xs (verdict.Good counts)
       → GoodRunIn s xs (verdict.Good counts) success → IsMarkedBy s old new xs → IsMarkedStream (counted_by found (verdict.Good counts)) xs
@@ -72,7 +72,7 @@ module _ (s : Settings) (asked : Conditions) (old new : Marks) where
       let marked_same : m.judged ≡ r.judged = cc in (
         r.judged,
         (counts, found, r, refl),
-        subst (λ (es : List Envelope). Marked es old new) marked_same m.marked,
+        subst (λ (es : List Envelope). MarksWhatRan es old new) marked_same m.marked,
         λ i. record {
           cases = (ap (λ (k : Counts). k.cases) r.exact) i;
           retried = (r.found_exact i).retried;
@@ -122,7 +122,7 @@ pub nothing_ran : (m : Marks) → AlsoRan m m (is_run_in [])
 nothing_ran m text place there = sym (or-false (has_run m text place))
 
 -- one stream more
-ran_more : (old mid new : Marks) (streams : List (List Envelope)) (es : List Envelope) → marked_texts mid ≡ marked_texts old → AlsoRan old mid (is_run_in streams) → Marked es mid new → AlsoRan old new (is_run_in (streams ++ es ∷ []))
+ran_more : (old mid new : Marks) (streams : List (List Envelope)) (es : List Envelope) → marked_texts mid ≡ marked_texts old → AlsoRan old mid (is_run_in streams) → MarksWhatRan es mid new → AlsoRan old new (is_run_in (streams ++ es ∷ []))
 ran_more old mid new streams es texts so_far m text place there =
     let also = so_far text place there in
     let before : Bool = has_run old text place in

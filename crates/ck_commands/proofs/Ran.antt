@@ -21,7 +21,7 @@ use Rattle.ck_commands.specs.Features.{IsFeatureOf, fault_report, parse_report}
 use Rattle.ck_commands.specs.Gate.{PrintsBadWhy, PrintsReleased, ReleasesOrTells, held_status, second_line}
 use Rattle.ck_commands.specs.Output.{Breaks, Delivers, DeliversOne, Prints, Report, code_of, trouble_report}
 use Rattle.ck_commands.specs.Results.{results_report}
-use Rattle.ck_commands.specs.Run.{IsBadFor, IsDone, PrintsCompiled, PrintsDocument, PrintsFault, PrintsRefused, PrintsResults, Reported, Reports, ReportsCompiled, Runs, Tells}
+use Rattle.ck_commands.specs.Run.{IsBadFor, IsDone, PrintsCompiled, PrintsDocument, PrintsFault, PrintsRefused, PrintsResults, IsReportOf, Reports, ReportsCompiled, Runs, Tells}
 use Rattle.ck_commands.specs.Verdicts.{PrintsBad, PrintsGood, counts_text, verdict_report}
 use Rattle.ck_commands.specs.declared.command_feature.FeatureFault.{FeatureFault}
 use Rattle.ck_commands.specs.declared.command_feature.FeatureFault.TheVariants as fault
@@ -174,7 +174,7 @@ bad_of (ask_cases s form) bytes rest r code before after t p one = not_listed s 
 
 -- ---- a run
 
-pub runs_of : (c : Command) (r : Report) (code : ℕ) (i j : Input) (before after : Output) → Delivers r code before after → Reported c r i j → Runs c code i j before after
+pub runs_of : (c : Command) (r : Report) (code : ℕ) (i j : Input) (before after : Output) → Delivers r code before after → IsReportOf c r i j → Runs c code i j before after
 runs_of c r code i j before after d h =
     record {
       answer = λ reads. input_weaker {P = λ bytes. Reports c bytes r ⊎ (r ≡ trouble_report Memory)} {Q = λ bytes. DeliversOne (Reports c bytes) code before after} i j (h.answer reads) (λ xs one. (r, one, d));
@@ -203,7 +203,7 @@ runs_of c r code i j before after d h =
     }
 
 -- where there was no memory, and nothing was read
-pub without_memory : (c : Command) (i : Input) → Reported c (trouble_report Memory) i i
+pub without_memory : (c : Command) (i : Input) → IsReportOf c (trouble_report Memory) i i
 without_memory c i = record {
   answer = λ none. of_any {P = λ bytes. Reports c bytes (trouble_report Memory) ⊎ (trouble_report Memory ≡ trouble_report Memory)} i (λ xs. inr refl);
   tells = λ other. absurd (other refl);

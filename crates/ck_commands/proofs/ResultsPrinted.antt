@@ -16,7 +16,7 @@ use Rattle.ck_commands.specs.Reading.{HasOutcome, is_failed_attempts_read, repor
 use Rattle.ck_commands.specs.Results.{ResultsShowNoFault, results_report}
 use Rattle.ck_commands.specs.declared.report.ExitStatus.TheVariants as exit
 use Rattle.ck_commands.proofs.Printing.{IsOne, failed_outcome, failed_read, none_failed, outcome_reported, some_failed}
-use Rattle.ck_commands.specs.Run.{Reported}
+use Rattle.ck_commands.specs.Run.{IsReportOf}
 
 -- with another status than that of trouble no read failed
 was_read : (held : Result Table (Result Audited Trouble)) (r : Report) → IsOne (report_of_read held) r → (r.status ≡ exit.Trouble → ⊥) → is_failed_attempts_read held ≡ false
@@ -46,7 +46,7 @@ done_of held r (inr e) done = let no : exit.Trouble ≡ exit.Done = sym (ap (λ 
 
 pub results_are_reported : (first : ℕ) (held : Result Table (Result Audited Trouble)) (r : Report) (i j : Input) → OfInput i j (λ bytes. HasOutcome (first_results_fault first bytes) held)
     → ((report_of_read held).status ≡ exit.Done → j.is_over ≡ true) → CountsFailure (is_failed_attempts_read held) i.failed_calls j.failed_calls
-    → (held ≡ Err (Err ReadFailed) → OfReads i j (ResultsShowNoFault first)) → IsOne (report_of_read held) r → Reported (ask_results first) r i j
+    → (held ≡ Err (Err ReadFailed) → OfReads i j (ResultsShowNoFault first)) → IsOne (report_of_read held) r → IsReportOf (ask_results first) r i j
 results_are_reported first held r i j is over counts none one = record {
   answer = λ all. outcome_reported first i j held r is (none_failed _ _ _ counts all) one;
   tells = λ other.

@@ -12,10 +12,10 @@ use Rattle.files.specs.declared.files.FileTrouble.{FileTrouble}
 use Rattle.files.specs.declared.files.FileTrouble.TheVariants as trouble
 use Rattle.ck_command_line.specs.CommandLine.{Command, RunsGate, ask_gate, is_input}
 use Rattle.cm_envelope.specs.declared.envelope.Envelope.{Envelope}
-use Rattle.ck_commands.specs.Asked.{EachReleased, EachReleasedAs, Released, ReleasedBy, ReleasesEach}
+use Rattle.ck_commands.specs.Asked.{EachReleased, EachReleasedAs, HearsReleasedStream, ReleasedBy, ReleasesEach}
 use Rattle.ck_commands.specs.Judged.{AreStreams, ReleasedAs}
 use Rattle.ck_commands.specs.Output.{NoneFailed, Prints, Report, code_of, trouble_report}
-use Rattle.ck_commands.specs.Run.{Reported, Reports, ShowsNone, Tells}
+use Rattle.ck_commands.specs.Run.{IsReportOf, Reports, ShowsNone, Tells}
 use Rattle.ck_commands.specs.Runs.{GatesRuns, IsRunsReport, OfHeard, Reading, ReadsBy, ReadsRun, ReadsRuns, ReportEach, ReportsRun, heard, status_of_all, unnoted, unopened, unread}
 use Rattle.ck_commands.specs.Standard.{GaveReleasedEach}
 use Rattle.ck_commands.specs.declared.report.ExitStatus.TheVariants as exit
@@ -43,7 +43,7 @@ as_printed r done = record {
   flushed = refl;
 }
 
-pub released_of : (s : Settings) (asked : Conditions) (r : Report) (i j : Input) → Reported (ask_gate s asked) r i j → r.status ≡ exit.Done → Released s asked i j
+pub released_of : (s : Settings) (asked : Conditions) (r : Report) (i j : Input) → IsReportOf (ask_gate s asked) r i j → r.status ≡ exit.Done → HearsReleasedStream s asked i j
 released_of s asked r i j reported done =
     whole_of (λ bytes rest. Tells (ask_gate s asked) bytes rest r) (λ bytes. (counts : Counts) × (found : ReleaseCounts) × IsReleasedStream s asked bytes counts found) i j
     (reported.tells (is_no_trouble r done)) (reported.over done)
@@ -68,7 +68,7 @@ by_reading false R P name first others i k (heard before after) reads is rest = 
 )
 
 module _ (s : Settings) (asked : Conditions) where
-  heard_released : (reading : Reading) (r : Report) → ReportsRun s asked reading r → r.status ≡ exit.Done → OfHeard (Released s asked) reading
+  heard_released : (reading : Reading) (r : Report) → ReportsRun s asked reading r → r.status ≡ exit.Done → OfHeard (HearsReleasedStream s asked) reading
   heard_released unopened r reports done = absurd (no_trouble_done r reports done)
   heard_released unnoted r reports done = absurd (no_trouble_done r (inr reports) done)
   heard_released (heard before after) r reports done = released_of s asked r before after reports done
@@ -81,8 +81,8 @@ module _ (s : Settings) (asked : Conditions) where
   each_released (n ∷ ns) noted i j (x ∷ xs) [] runs each done = absurd each
   each_released (n ∷ ns) noted i j (x ∷ xs) (r ∷ rs) runs each done =
       let both = both_done r.status (status_of_all rs) done in
-      subst (λ (l : List Opening). ReleasedBy (is_input n) (Released s asked) (λ more m. EachReleased s asked ns more m j) n l i) (sym runs.3)
-      (by_reading (is_input n) (Released s asked) (λ more m. EachReleased s asked ns more m j) n runs.0 runs.1 i runs.2 x runs.4 (heard_released x r each.0 both.0) (each_released ns runs.1 runs.2 j xs rs runs.5 each.1 both.1))
+      subst (λ (l : List Opening). ReleasedBy (is_input n) (HearsReleasedStream s asked) (λ more m. EachReleased s asked ns more m j) n l i) (sym runs.3)
+      (by_reading (is_input n) (HearsReleasedStream s asked) (λ more m. EachReleased s asked ns more m j) n runs.0 runs.1 i runs.2 x runs.4 (heard_released x r each.0 both.0) (each_released ns runs.1 runs.2 j xs rs runs.5 each.1 both.1))
 
   -- the same of runs whose streams are known
   pub each_released_as : (names : List (List ℕ)) (streams : List (List Envelope)) (noted : List Opening) (i j : Input) (readings : List Reading) → ReadsRuns names noted i j readings → AreStreams s asked readings streams
@@ -100,7 +100,7 @@ module _ (s : Settings) (asked : Conditions) where
   kept_by : (standard : Bool) (name : List ℕ) (first : List Opening) (i k : Input) (reading : Reading) (r : Report) → ReadsBy standard name first i k reading → ReportsRun s asked reading r → r.status ≡ exit.Done
       → k.failed_calls ≡ i.failed_calls
   kept_by true name first i k reading r reads reports done =
-      let reported : Reported (ask_gate s asked) r i k = subst (λ (x : Reading). ReportsRun s asked x r) reads.1 reports in
+      let reported : IsReportOf (ask_gate s asked) r i k = subst (λ (x : Reading). ReportsRun s asked x r) reads.1 reports in
       reported.unread done
   kept_by false name first i k reading r reads reports done = ap (λ (x : Input). x.failed_calls) reads.0
 
@@ -148,7 +148,7 @@ from_fresh_whole P i j fresh h = (
   h.3,
 )
 
-pub from_fresh : (c : Command) (r : Report) (i j : Input) → IsFresh i → Reported c r i j → Reported c r unread j
+pub from_fresh : (c : Command) (r : Report) (i j : Input) → IsFresh i → IsReportOf c r i j → IsReportOf c r unread j
 from_fresh c r i j fresh h = record {
   answer = λ none. from_fresh_reads (λ bytes rest. Reports c bytes r ⊎ (r ≡ trouble_report Memory)) i j fresh (h.answer (subst (λ (n : ℕ). NoneFailed n j.failed_calls) (sym fresh.unfailed) none));
   tells = λ other. from_fresh_reads (λ bytes rest. Tells c bytes rest r) i j fresh (h.tells other);

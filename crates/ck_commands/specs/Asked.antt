@@ -16,7 +16,7 @@ use Rattle.cm_stream.specs.Release.{Conditions, IsReleasedStream}
 use Rattle.cm_stream.specs.declared.laws.ReleaseCounts.{ReleaseCounts}
 use Rattle.cm_stream.specs.declared.laws.Counts.{Counts}
 use Rattle.feature_paths.specs.FeaturePaths.{FindsFiles}
-use Rattle.files.specs.Looks.{Looked}
+use Rattle.files.specs.Looks.{PathLook}
 use Rattle.files.specs.Openings.{Opening}
 use Rattle.ck_command_line.specs.CommandLine.{Asked, FeaturesGate, RunsGate, asked_by, over_features, over_input, over_runs, is_input}
 use Rattle.ck_commands.specs.FeatureFiles.{FeatureFile, ReadsFiles}
@@ -31,7 +31,7 @@ abbrev pub AsksFor : List (Bor (List ℕ)) → Asked → Type 0
 AsksFor words a = asked_by words ≡ Some a
 
 -- a command over standard input opens no file, and only a gate over feature files looks at paths
-abbrev pub Leaves : Asked → (code : ℕ) → (old new : List Opening) → (seen later : List Looked)
+abbrev pub Leaves : Asked → (code : ℕ) → (old new : List Opening) → (seen later : List PathLook)
     → (i j : Input) → (before after : Output) → Type 0
 Leaves (over_input c) code old new seen later i j before after =
     (new ≡ old) × (later ≡ seen) × Runs c code i j before after
@@ -42,7 +42,7 @@ Leaves (over_features g) code old new seen later i j before after =
 
 -- words that ask for nothing open no file, read nothing, and are told the usage, or help where they call for it
 pub record LeavesAlone (words : List (Bor (List ℕ))) (code : ℕ) (old new : List Opening)
-    (seen later : List Looked) (i j : Input) (before after : Output) : Type 0 where
+    (seen later : List PathLook) (i j : Input) (before after : Output) : Type 0 where
   pub unopened : new ≡ old
   pub unseen : later ≡ seen
   pub unread : j ≡ i
@@ -51,8 +51,8 @@ pub record LeavesAlone (words : List (Bor (List ℕ))) (code : ℕ) (old new : L
 -- ---- what status 0 says of a gate over runs
 
 -- a source was read to its end, and gave a released stream
-abbrev pub Released : Settings → Conditions → (i j : Input) → Type 0
-Released s asked i j =
+abbrev pub HearsReleasedStream : Settings → Conditions → (i j : Input) → Type 0
+HearsReleasedStream s asked i j =
     OfWhole i j (λ bytes. (counts : Counts) × (found : ReleaseCounts)
     × IsReleasedStream s asked bytes counts found)
 
@@ -70,7 +70,7 @@ abbrev pub EachReleased : Settings → Conditions → (names : List (List ℕ)) 
     → (i j : Input) → Type 0
 EachReleased s asked [] noted i j = (noted ≡ []) × (j ≡ i)
 EachReleased s asked (name ∷ names) noted i j =
-    ReleasedBy (is_input name) (Released s asked) (λ rest k. EachReleased s asked names rest k j)
+    ReleasedBy (is_input name) (HearsReleasedStream s asked) (λ rest k. EachReleased s asked names rest k j)
     name noted i
 
 -- with status 0 of a gate over runs
@@ -117,7 +117,7 @@ pub record IsCovered (asked : Conditions) (policy : Policy)
 -- With status 0 of a gate over feature files: these files were found and read, each run was read to its end and gave a released
 -- stream, and of each file that holds.
 pub record ReleasesFeatures (g : FeaturesGate) (old new : List Opening)
-    (seen later : List Looked) (i j : Input) : Type 0 where
+    (seen later : List PathLook) (i j : Input) : Type 0 where
   pub paths : List Utf8
   pub found : FindsFiles g.features seen later paths
   pub files : List FeatureFile

@@ -11,13 +11,13 @@ use Rattle.cm_stream.specs.Release.{Conditions}
 use Rattle.cm_stream.specs.Texts.{Utf8}
 use Rattle.feature_paths.specs.FeaturePaths.{FindsFault, FindsFiles}
 use Rattle.feature_paths.specs.Shown.{Faulty}
-use Rattle.files.specs.Looks.{Looked}
+use Rattle.files.specs.Looks.{PathLook}
 use Rattle.files.specs.Openings.{Opening}
 use Rattle.ck_command_line.specs.CommandLine.{FeaturesGate, ask_gate}
 use Rattle.ck_commands.specs.FeatureFiles.{FailsAtFile, FeatureFile, ReadsFiles, asked_once, faulty_report}
 use Rattle.ck_commands.specs.Judged.{AreStreams, counts_of_all, is_run_in}
 use Rattle.ck_commands.specs.Output.{Delivers, Report, trouble_report}
-use Rattle.ck_commands.specs.Run.{Reported}
+use Rattle.ck_commands.specs.Run.{IsReportOf}
 use Rattle.ck_commands.specs.Runs.{IsRunsReport, Reading, heard}
 use Rattle.ck_commands.specs.declared.command_gate.GateCounts.{GateCounts}
 use Rattle.ck_commands.specs.declared.report.ExitStatus.TheVariants.{Done, Held}
@@ -28,7 +28,7 @@ use Rattle.ck_commands.specs.declared.report.ExitStatus.TheVariants.{Done, Held}
 abbrev pub IsPartsReport : Settings → Conditions → (runs : List Utf8) → (old new : List Opening)
     → (i j : Input) → List Reading → Report → Type 0
 IsPartsReport s asked [] old new i j readings r =
-    (new ≡ old) × (readings ≡ heard i j ∷ []) × Reported (ask_gate s asked) r i j
+    (new ≡ old) × (readings ≡ heard i j ∷ []) × IsReportOf (ask_gate s asked) r i j
 IsPartsReport s asked (run ∷ runs) old new i j readings r =
     (all : IsRunsReport (record { settings = s; asked = asked; runs = run ∷ runs }) old new i j r)
     × (readings ≡ all.readings)
@@ -121,21 +121,21 @@ pub record ReportsFaultyFile (paths : List Utf8) (old new : List Opening) (i j :
 
 -- One of the paths leads to no files, and nothing was read.
 pub record ReportsFaultyPath (paths : List Utf8) (old new : List Opening)
-    (seen later : List Looked) (i j : Input) (r : Report) : Type 0 where
+    (seen later : List PathLook) (i j : Input) (r : Report) : Type 0 where
   pub wrong : Faulty
   pub finds : FindsFault paths seen later wrong
   pub unopened : new ≡ old
   pub unread : j ≡ i
   pub told : r ≡ faulty_report wrong
 
-abbrev pub ReportsFound : FeaturesGate → (old new : List Opening) → (seen later : List Looked)
+abbrev pub ReportsFound : FeaturesGate → (old new : List Opening) → (seen later : List PathLook)
     → (i j : Input) → Report → Type 0
 ReportsFound g old new seen later i j r =
     (paths : List Utf8) × FindsFiles g.features seen later paths
     × (ReportsFaultyFile paths old new i j r ⊎ ReportsFiles g paths old new i j r)
 
 -- the report of a gate over feature files
-abbrev pub IsFeaturesReport : FeaturesGate → (old new : List Opening) → (seen later : List Looked)
+abbrev pub IsFeaturesReport : FeaturesGate → (old new : List Opening) → (seen later : List PathLook)
     → (i j : Input) → Report → Type 0
 IsFeaturesReport g old new seen later i j r =
     ReportsFaultyPath g.features old new seen later i j r
@@ -143,7 +143,7 @@ IsFeaturesReport g old new seen later i j r =
 
 -- that report is delivered, or that of no memory
 abbrev pub GatesFeatures : FeaturesGate → (code : ℕ) → (old new : List Opening)
-    → (seen later : List Looked) → (i j : Input) → (before after : Output) → Type 0
+    → (seen later : List PathLook) → (i j : Input) → (before after : Output) → Type 0
 GatesFeatures g code old new seen later i j before after =
     (r : Report) × (IsFeaturesReport g old new seen later i j r ⊎ (r ≡ trouble_report Memory))
     × Delivers r code before after

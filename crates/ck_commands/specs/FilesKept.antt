@@ -22,7 +22,7 @@ use Rattle.feature_paths.specs.FeaturePaths.{FindsFault, FindsFiles}
 use Rattle.feature_paths.specs.Shown.{faulty}
 use Rattle.feature_paths.specs.declared.paths.PathTrouble.{PathTrouble}
 use Rattle.feature_paths.specs.declared.paths.PathTrouble.TheVariants as trouble
-use Rattle.files.specs.Looks.{Looked}
+use Rattle.files.specs.Looks.{PathLook}
 use Rattle.files.specs.Openings.{Opening}
 use Rattle.ck_commands.specs.FeatureFiles.{FailsAtFile, FailsToRead, FeatureFile, ReadsFiles, WasRead}
 use Rattle.ck_commands.specs.declared.command_gate_features.FeatureFile as made
@@ -74,13 +74,13 @@ TellsFile paths old new trouble.Memory = ⊤
 
 -- the feature files were found and read
 abbrev pub GivesFeatures : (features : List Utf8) → (old new : List Opening)
-    → (seen later : List Looked) → List FeatureFile → Type 0
+    → (seen later : List PathLook) → List FeatureFile → Type 0
 GivesFeatures features old new seen later files =
     (paths : List Utf8) × FindsFiles features seen later paths × ReadsFiles paths old new files
 
 -- they couldn't be found, or not be read
 abbrev pub TellsFeatures : (features : List Utf8) → (old new : List Opening)
-    → (seen later : List Looked) → PathTrouble → Type 0
+    → (seen later : List PathLook) → PathTrouble → Type 0
 TellsFeatures features old new seen later (trouble.Faulty wrong) =
     (FindsFault features seen later (faulty wrong) × (new ≡ old))
     ⊎ ((paths : List Utf8) × FindsFiles features seen later paths

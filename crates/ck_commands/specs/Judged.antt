@@ -15,14 +15,14 @@ use Rattle.cm_stream.specs.declared.laws.ReleaseCounts.{ReleaseCounts}
 use Rattle.cm_stream.specs.declared.laws.Counts.{Counts}
 use Rattle.cm_stream.specs.declared.laws.Verdict.{Verdict}
 use Rattle.cm_stream.specs.declared.laws.Verdict.TheVariants as verdict
-use Rattle.cm_ran.specs.Marks.{AlsoRan, HasWholeRows, Marked, marked_texts}
+use Rattle.cm_ran.specs.Marks.{AlsoRan, HasWholeRows, MarksWhatRan, marked_texts}
 use Rattle.cm_ran.specs.RunAt.{is_run_at}
 use Rattle.cm_ran.specs.declared.marks.Marks.{Marks}
 use Rattle.cm_audit_release.specs.declared.audited_release.AuditedRelease.{AuditedRelease}
 use Rattle.files.specs.Openings.{Opening}
 use Rattle.ck_command_line.specs.CommandLine.{RunsGate, ask_gate}
 use Rattle.ck_commands.specs.Output.{Report, report_made, trouble_report}
-use Rattle.ck_commands.specs.Run.{Reported}
+use Rattle.ck_commands.specs.Run.{IsReportOf}
 use Rattle.ck_commands.specs.Runs.{IsRunsReport, OfHeard, Reading, ReportsRun}
 use Rattle.ck_commands.specs.declared.command_gate.JudgedRun as made
 use Rattle.ck_commands.specs.declared.command_gate.GateCounts.{GateCounts}
@@ -104,13 +104,13 @@ pub record MarksStream (s : Settings) (asked : Conditions) (old new : Marks) (co
     (Gives : List Envelope → Type 0) : Type 0 where
   pub es : List Envelope
   pub gives : Gives es
-  pub marked : Marked es old new
+  pub marked : MarksWhatRan es old new
   pub counted : counts ≡ run_counts asked s.policy es
 
 -- From one state of a source to a later one a run was judged: its report is that of `gate`, and with status 0 it was marked.
 pub record JudgesStream (s : Settings) (asked : Conditions) (i j : Input) (old new : Marks) (r : Report)
     (counts : GateCounts) : Type 0 where
-  pub reported : Reported (ask_gate s asked) r i j
+  pub reported : IsReportOf (ask_gate s asked) r i j
   pub texts : marked_texts new ≡ marked_texts old
   pub done : r.status ≡ Done
       → MarksStream s asked old new counts (λ es. ReleasedAs s asked es i j)

@@ -10,7 +10,7 @@ use Rattle.cm_stream.specs.Good.{Everywhere}
 use Rattle.cm_stream.specs.Readings.{Accepted, IsReading}
 use Rattle.cm_stream.specs.ReleasedRuns.{PicklePassed, StepMatched}
 use Rattle.cm_stream.specs.Texts.{Utf8}
-use Rattle.files.specs.Looks.{Looked}
+use Rattle.files.specs.Looks.{PathLook}
 use Rattle.files.specs.Openings.{Opening}
 use Rattle.gk_document.specs.declared.tree.Document.{Document}
 use Rattle.gk_pickle.specs.Pickles.{pickles as compiled}
@@ -91,7 +91,7 @@ pub record IsStrict (s : Settings) (asked : Conditions) : Type 0 where
 -- By a strict gate over feature files each of their scenarios passed.
 abbrev pub FeaturesPassed : Type 0
 FeaturesPassed =
-    (g : FeaturesGate) (old new : List Opening) (seen later : List Looked) (i j : Input)
+    (g : FeaturesGate) (old new : List Opening) (seen later : List PathLook) (i j : Input)
     (r : ReleasesFeatures g old new seen later i j) → IsStrict g.settings g.asked
     → AllByRecursion (HasPassed r.streams) r.files
 

@@ -150,7 +150,7 @@ TellsFailedRead code before after =
 
 -- What a report is of what was heard from one state of a source to a later one: what is reported where no read failed; what any
 -- status but that of trouble says; that the source was at its end where all was done; and what is left of a failed read.
-pub record Reported (c : Command) (r : Report) (i j : Input) : Type 0 where
+pub record IsReportOf (c : Command) (r : Report) (i j : Input) : Type 0 where
   pub answer : NoneFailed i.failed_calls j.failed_calls
       → OfInput i j (λ bytes. Reports c bytes r ⊎ (r ≡ trouble_report Memory))
   pub tells : (r.status ≡ exit.Trouble → ⊥) → OfReads i j (λ bytes rest. Tells c bytes rest r)

@@ -10,7 +10,7 @@ use Rattle.cm_cases.specs.Shown.{shown_text}
 use Rattle.files.specs.Openings.{Opening}
 use Rattle.ck_command_line.specs.CommandLine.{RunsGate, ask_gate, is_input}
 use Rattle.ck_commands.specs.Output.{Delivers, Report, trouble_report}
-use Rattle.ck_commands.specs.Run.{Reported}
+use Rattle.ck_commands.specs.Run.{IsReportOf}
 use Rattle.ck_commands.specs.declared.report.ExitStatus.{ExitStatus}
 use Rattle.ck_commands.specs.declared.report.ExitStatus.TheVariants.{Done}
 
@@ -65,7 +65,7 @@ ReadsRuns (name ∷ names) noted i j (reading ∷ readings) =
 abbrev pub ReportsRun : Settings → Conditions → Reading → Report → Type 0
 ReportsRun s asked unopened r = (r ≡ trouble_report ReadFailed) ⊎ (r ≡ trouble_report Memory)
 ReportsRun s asked unnoted r = r ≡ trouble_report Memory
-ReportsRun s asked (heard before after) r = Reported (ask_gate s asked) r before after
+ReportsRun s asked (heard before after) r = IsReportOf (ask_gate s asked) r before after
 
 abbrev pub ReportEach : Settings → Conditions → List Reading → List Report → Type 0
 ReportEach s asked [] [] = ⊤

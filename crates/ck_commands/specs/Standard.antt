@@ -5,7 +5,7 @@ use Rattle.cm_attempt.specs.declared.status.Settings.{Settings}
 use Rattle.cm_stream.specs.Release.{Conditions, IsReleasedStream}
 use Rattle.cm_stream.specs.declared.laws.ReleaseCounts.{ReleaseCounts}
 use Rattle.cm_stream.specs.declared.laws.Counts.{Counts}
-use Rattle.files.specs.Looks.{Looked}
+use Rattle.files.specs.Looks.{PathLook}
 use Rattle.files.specs.Openings.{Opening}
 use Rattle.ck_command_line.specs.CommandLine.{FeaturesGate, RunsGate}
 use Rattle.ck_commands.specs.Asked.{ReleasesEach, ReleasesFeatures}
@@ -27,7 +27,7 @@ GaveReleasedEach g old new i =
     (shown : Option (List ℕ)) × ReleasesEach g old new (at_start shown) i
 
 -- what status 0 says of feature files holds, with the runs among the files, or of what standard input gave
-abbrev pub GaveFeatures : FeaturesGate → (old new : List Opening) → (seen later : List Looked)
+abbrev pub GaveFeatures : FeaturesGate → (old new : List Opening) → (seen later : List PathLook)
     → Input → Type 0
 GaveFeatures g old new seen later i =
     (shown : Option (List ℕ)) × ReleasesFeatures g old new seen later (at_start shown) i

@@ -5,7 +5,7 @@ ghost use Rattle.cm_stream.specs.Stream.{answer_of_audit};
 ghost use Rattle.ck_command_line.specs.CommandLine.{ask_gate};
 ghost use Rattle.ck_commands.specs.Output.{IsReport, report_made, trouble_report};
 ghost use Rattle.ck_commands.specs.Gate.{ReportsRelease, held_report, hold_name, release_text, held_status, second_line};
-ghost use Rattle.ck_commands.specs.Run.{Reported, Runs};
+ghost use Rattle.ck_commands.specs.Run.{IsReportOf, Runs};
 ghost use Rattle.ck_commands.specs.Verdicts.{verdict_report};
 ghost use Rattle.ck_commands.specs.Judged.{JudgesRuns, counts_made, run_report, JudgesRun, JudgesStream, added_counts};
 ghost use Rattle.ck_commands.specs.Judged.{counted_in, no_counts};
@@ -144,7 +144,7 @@ fn gate_report<R: ByteSource>(
     conditions: &Conditions<'_>,
     source: &mut R,
 ) -> Result<Report, AllocError>
-    ensures { Reported (ask_gate settings (conditions_of conditions.now)) (report_made result)
+    ensures { IsReportOf (ask_gate settings (conditions_of conditions.now)) (report_made result)
         (R.input source.old) (R.input source.new) }
 {
     let answer = audit_release(alloc, seed, source, settings, conditions);

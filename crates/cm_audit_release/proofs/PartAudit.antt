@@ -16,7 +16,7 @@ use Rattle.cm_audit.specs.Audit.{GoodAtEnd, GoodAtEndIn, IsAuditOf}
 use Rattle.cm_audit.specs.State.{summary_of}
 use Rattle.cm_audit.specs.Watched.{FollowsGood, IsWatchedAuditOf, audit_in}
 use Rattle.cm_audit.specs.declared.auditing.WatchedAudit.{WatchedAudit}
-use Rattle.cm_ran.specs.Marks.{Marked}
+use Rattle.cm_ran.specs.Marks.{MarksWhatRan}
 use Rattle.cm_ran.specs.declared.marks.Marks.{Marks}
 use Rattle.cm_audit_release.specs.PartAudit.{IsMarkedBy, IsPartAuditOf, MarksJudged, is_released, is_unheld}
 use Rattle.cm_audit_release.specs.ReleaseAudit.{CountsWatched, IsReleaseAuditOf, audited_in, release_in}
@@ -30,7 +30,7 @@ use Rattle.cm_audit_release.proofs.ReleaseAudit.{memory_too, release_at_end, rel
 
 module _ (settings : Settings) (asked : Conditions) (old new : Marks) where
   marked_by : (watch : ReleaseWatch) (table : Table) (xs : List ℕ) (v : Verdict) (hold : Option Hold) → is_unheld v hold ≡ true → FollowsGood settings (Follows watch) table xs v
-      → ((es : List Envelope) → IsTallyOf watch.tally es → Marked es old new) → IsMarkedBy settings old new xs
+      → ((es : List Envelope) → IsTallyOf watch.tally es → MarksWhatRan es old new) → IsMarkedBy settings old new xs
   marked_by watch table xs (verdict.Good counts) None is h mark = record { judged = h.judged; read = h.read; good = h.good; marked = mark h.judged h.followed }
   marked_by watch table xs (verdict.Good counts) (Some hold) is h mark = cc
   marked_by watch table xs (verdict.Bad n b) hold is h mark = cc
@@ -43,7 +43,7 @@ module _ (settings : Settings) (asked : Conditions) (old new : Marks) where
     marked = (
       λ is.
           let unheld = ap (λ (x : Audited). is_unheld x.verdict j.release.hold) (sym k.audited) ∙ ap is_released (sym m.0) ∙ is in
-          let mark = subst (λ (t : Tally). (es : List Envelope) → IsTallyOf t es → Marked es old new) k.tally (m.1 (ap is_released (sym m.0) ∙ is)) in
+          let mark = subst (λ (t : Tally). (es : List Envelope) → IsTallyOf t es → MarksWhatRan es old new) k.tally (m.1 (ap is_released (sym m.0) ∙ is)) in
           marked_by w.watch (summary_of w.state).table xs w.audited.verdict j.release.hold unheld h.followed mark,
       λ held. m.2 (ap is_released (sym m.0) ∙ held),
     );

@@ -10,7 +10,7 @@ use Rattle.cm_stream.specs.Stream.{IsReadAs}
 use Rattle.cm_stream.specs.declared.laws.Hold.{Hold}
 use Rattle.cm_stream.specs.declared.laws.Verdict.{Verdict}
 use Rattle.cm_stream.specs.declared.laws.Verdict.TheVariants as verdict
-use Rattle.cm_ran.specs.Marks.{HasSameFlags, Marked}
+use Rattle.cm_ran.specs.Marks.{HasSameFlags, MarksWhatRan}
 use Rattle.cm_ran.specs.declared.marks.Marks.{Marks}
 use Rattle.cm_audit_release.specs.ReleaseAudit.{IsReleaseAuditOf}
 use Rattle.cm_audit_release.specs.declared.audited_release.AuditedRelease.{AuditedRelease}
@@ -32,7 +32,7 @@ pub record IsMarkedBy (settings : Settings) (old new : Marks) (bytes : List ℕ)
   pub judged : List Envelope
   pub read : IsReadAs settings bytes judged
   pub good : Good settings judged
-  pub marked : Marked judged old new
+  pub marked : MarksWhatRan judged old new
 
 -- that, where the run is released; where it isn't, nothing is marked
 abbrev pub MarksReleased : Settings → (old new : Marks) → List ℕ → Result AuditedRelease Trouble
@@ -55,7 +55,7 @@ abbrev pub MarksJudged : Result JudgedAudit Trouble → (old new : Marks)
 MarksJudged (Ok j) old new (Ok a) =
     (a ≡ j.release)
     × (is_released j.release ≡ true → (es : List Envelope) → IsTallyOf j.tally es
-    → Marked es old new)
+    → MarksWhatRan es old new)
     × (is_released j.release ≡ false → HasSameFlags old new)
 MarksJudged (Ok j) old new (Err t) = t ≡ Memory
 MarksJudged (Err t) old new answer = answer ≡ Err t

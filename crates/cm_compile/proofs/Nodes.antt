@@ -14,7 +14,7 @@ use Rattle.gk_document.specs.declared.tree.Feature.{Feature}
 use Rattle.gk_grammar.specs.Grammar.{tag_nodes, node_of_row, row_nodes, step_nodes, background_nodes, table_rows, examples_nodes, scenario_nodes, rule_nodes, feature_nodes}
 use Rattle.gk_pickle.specs.declared.pickles.PickleStep.{PickleStep}
 use Rattle.gk_pickle.specs.declared.pickles.Pickle.{Pickle}
-use Rattle.gk_pickle.specs.Inherited.{Inherited}
+use Rattle.gk_pickle.specs.Inheritance.{Inheritance}
 use Rattle.gk_pickle.specs.Pickles.{pickle_of, row_filling, table_pickles, examples_pickles, outline_pickles, scenario_pickles, background_steps, in_feature, in_rule, rule_pickles, pickles_in}
 use Rattle.gk_pickle.specs.Order.{rule_steps, document_steps, IsSubsequence, first_node, ComesFrom}
 
@@ -98,26 +98,26 @@ few_steps o p h =
 
 -- ---- pickles
 
-table_pickles_have_nodes : (inherited : Inherited) (s : Scenario) (tags : List Tag) (o : Option ExampleTable)
+table_pickles_have_nodes : (inherited : Inheritance) (s : Scenario) (tags : List Tag) (o : Option ExampleTable)
     → length (table_pickles inherited s tags o) ≤ length (row_nodes (table_rows o))
 table_pickles_have_nodes inherited s tags None = omega arith
 table_pickles_have_nodes inherited s tags (Some t) =
     omega (arith, length-map t.body (λ (row : Row). pickle_of inherited s tags (row_filling t.header row)), length-map t.body node_of_row)
 
-examples_pickles_have_nodes : (inherited : Inherited) (s : Scenario) (e : Examples) → length (examples_pickles inherited s e) ≤ length (examples_nodes e)
+examples_pickles_have_nodes : (inherited : Inheritance) (s : Scenario) (e : Examples) → length (examples_pickles inherited s e) ≤ length (examples_nodes e)
 examples_pickles_have_nodes inherited s e = omega (
   arith,
   table_pickles_have_nodes inherited s e.tags e.table,
   later (tag_nodes e.tags) (e.location, e.node) (row_nodes (table_rows e.table)),
 )
 
-outline_pickles_have_nodes : (inherited : Inherited) (s : Scenario) (es : List Examples)
+outline_pickles_have_nodes : (inherited : Inheritance) (s : Scenario) (es : List Examples)
     → length (outline_pickles inherited s es) ≤ suc (length (flat_map examples_nodes es))
 outline_pickles_have_nodes inherited s [] = omega arith
 outline_pickles_have_nodes inherited s (e ∷ es) =
     omega (arith, no_longer (examples_pickles inherited s) examples_nodes (examples_pickles_have_nodes inherited s) (e ∷ es))
 
-scenario_pickles_have_nodes : (inherited : Inherited) (s : Scenario) → length (scenario_pickles inherited s) ≤ length (scenario_nodes s)
+scenario_pickles_have_nodes : (inherited : Inheritance) (s : Scenario) → length (scenario_pickles inherited s) ≤ length (scenario_nodes s)
 scenario_pickles_have_nodes inherited s =
     let steps = flat_map step_nodes s.steps in
     let examples = flat_map examples_nodes s.examples in
@@ -128,7 +128,7 @@ scenario_pickles_have_nodes inherited s =
       later (tag_nodes s.tags) (s.location, s.node) (steps ++ examples),
     )
 
-scenarios_pickles_have_nodes : (inherited : Inherited) (ss : List Scenario)
+scenarios_pickles_have_nodes : (inherited : Inheritance) (ss : List Scenario)
     → length (flat_map (scenario_pickles inherited) ss) ≤ length (flat_map scenario_nodes ss)
 scenarios_pickles_have_nodes inherited ss = no_longer (scenario_pickles inherited) scenario_nodes (scenario_pickles_have_nodes inherited) ss
 

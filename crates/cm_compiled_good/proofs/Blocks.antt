@@ -12,7 +12,7 @@ use Rattle.gk_line.specs.declared.tokens.Block.{Block}
 use Rattle.gk_line.specs.declared.tokens.Block.TheVariants as block
 use Rattle.gk_grammar.specs.Token.{Utf8, line_of}
 use Rattle.gk_grammar.specs.Tree.{Location, Tag, Background, ExampleTable, Examples, Scenario, Rule, Feature, Document}
-use Rattle.gk_grammar.specs.Grammar.{Piece, ◌⨾◌, Each, AtMostOne, OneLine, TagLines, Titled, IsStep, IsBackground, IsExampleTable, IsExamples, IsScenario, IsRule, IsFeature, IsPlainGap, IsEnglish, IsOpening, IsFeatureText}
+use Rattle.gk_grammar.specs.Grammar.{Piece, ◌⨾◌, Each, AtMostOne, OneLine, TagLines, TitleAndDescription, IsStep, IsBackground, IsExampleTable, IsExamples, IsScenario, IsRule, IsFeature, IsPlainGap, IsEnglish, IsOpening, IsFeatureText}
 use Rattle.gk_grammar.specs.Documents.{lines_read, IsDocumentOf, IsTooLong}
 use Rattle.cm_compiled_good.proofs.Clean.{CommentOk, Gives, TitleParts, gap_comments, gives_then, gives_each, gives_line, tag_lines_ok, title_ok, table_ok, step_ok, none_there}
 use Rattle.cm_compiled_good.proofs.Fine.{clean, TagOf, StepOf, BackgroundOf, TableOf, ExamplesOf, ScenarioOf, RuleOf, FeatureOf}
@@ -24,7 +24,7 @@ use Rattle.cm_compiled_good.proofs.Tokens.{LineOk, lines_ok}
 background_ok : (o : Option Background) → Gives (AtMostOne IsBackground o) (BackgroundOf clean o)
 background_ok None ls cs t h = (tt, none_there cs t.1)
 background_ok (Some b) ls cs t h =
-    let k = gives_then (Titled block.Background b.location b.keyword b.name b.description) (Each IsStep b.steps) (TitleParts b.location b.keyword b.name b.description) (AllByRecursion (StepOf clean) b.steps)
+    let k = gives_then (TitleAndDescription block.Background b.location b.keyword b.name b.description) (Each IsStep b.steps) (TitleParts b.location b.keyword b.name b.description) (AllByRecursion (StepOf clean) b.steps)
     (title_ok block.Background b.location b.keyword b.name b.description) (gives_each IsStep (StepOf clean) step_ok b.steps) ls cs t h in
     let title = k.0.0 in
     ((tt, title.0, title.1, title.2, title.3, k.0.1), k.1)
@@ -35,10 +35,10 @@ example_table_ok (Some x) ls cs t h = let k = table_ok (x.header ∷ x.body) ls 
 
 -- a header, and what is below it
 header_ok : (b : Block) (p : Location) (tags : List Tag) (k m d : Utf8) (Q : Piece) (X : Type 0) → Gives Q X
-    → Gives (TagLines tags ⨾ Titled b p k m d ⨾ Q) (AllByRecursion (TagOf clean) tags × (TitleParts p k m d × X))
+    → Gives (TagLines tags ⨾ TitleAndDescription b p k m d ⨾ Q) (AllByRecursion (TagOf clean) tags × (TitleParts p k m d × X))
 header_ok b p tags k m d Q X q =
-    gives_then (TagLines tags) (Titled b p k m d ⨾ Q) (AllByRecursion (TagOf clean) tags) (TitleParts p k m d × X) (tag_lines_ok tags)
-    (gives_then (Titled b p k m d) Q (TitleParts p k m d) X (title_ok b p k m d) q)
+    gives_then (TagLines tags) (TitleAndDescription b p k m d ⨾ Q) (AllByRecursion (TagOf clean) tags) (TitleParts p k m d × X) (tag_lines_ok tags)
+    (gives_then (TitleAndDescription b p k m d) Q (TitleParts p k m d) X (title_ok b p k m d) q)
 
 examples_ok : (e : Examples) → Gives (IsExamples e) (ExamplesOf clean e)
 examples_ok e ls cs t h =

@@ -13,7 +13,7 @@ use Rattle.gk_document.specs.MediaType.{unless_empty as media_of}
 use Rattle.gk_grammar.specs.Token.{Utf8, TagText, Tags, Title, Step, Row, Fenced, Line, line, bytes, is_blank, is_comment}
 use Rattle.gk_grammar.specs.Tree as tree
 use Rattle.gk_grammar.specs.Tree.{Location, Tag, DocString, Argument}
-use Rattle.gk_grammar.specs.Grammar.{Piece, Then, Each, AtMostOne, OneLine, comment_of, comments_of, place_and_name, tag_at, IsTagLine, TagLines, Titled, from_text, description_of, IsRow, IsTable, content_line, IsDocString, IsArgument, IsStepLine, IsStep}
+use Rattle.gk_grammar.specs.Grammar.{Piece, Then, Each, AtMostOne, OneLine, comment_of, comments_of, place_and_name, tag_at, IsTagLine, TagLines, TitleAndDescription, from_text, description_of, IsRow, IsTable, content_line, IsDocString, IsArgument, IsStepLine, IsStep}
 use Rattle.cm_compiled_good.proofs.Fine.{Fits64, clean, TagOf, CellOf, RowOf, MediaOf, DocStringOf, ArgumentOf, StepOf}
 use Rattle.cm_compiled_good.proofs.Scalars.{encoded, doc_line_fits}
 use Rattle.cm_compiled_good.proofs.Tokens.{WordOk, CellOk, LineOk}
@@ -138,7 +138,7 @@ place_ok p n i e h k = subst Placed (sym e) (h, k)
 abbrev pub TitleParts : Location → (keyword name description : Utf8) → Type 0
 TitleParts p k m d = Placed p × IsUtf8 k × IsUtf8 m × IsUtf8 d
 
-pub title_ok : (b : Block) (p : Location) (k m d : Utf8) → Gives (Titled b p k m d) (TitleParts p k m d)
+pub title_ok : (b : Block) (p : Location) (k m d : Utf8) → Gives (TitleAndDescription b p k m d) (TitleParts p k m d)
 title_ok b p k m d [] cs t h = absurd t
 title_ok b p k m d (line n u i (Title c y z) ∷ ls) cs t h =
     let texts = h.0.3 in (

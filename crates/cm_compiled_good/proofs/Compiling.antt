@@ -16,7 +16,7 @@ use Rattle.gk_document.specs.declared.tree.Scenario.{Scenario}
 use Rattle.gk_document.specs.declared.tree.Rule.{Rule}
 use Rattle.gk_document.specs.declared.tree.Feature.{Feature}
 use Rattle.gk_document.specs.declared.tree.Document.{Document}
-use Rattle.gk_pickle.specs.Inherited.{Inherited, Filling, no_filling}
+use Rattle.gk_pickle.specs.Inheritance.{Inheritance, Filling, no_filling}
 use Rattle.gk_pickle.specs.Fill.{filled_text}
 use Rattle.gk_document.specs.MediaType.{unless_empty as media_type}
 use Rattle.gk_pickle.specs.Steps.{filled_by, filled_row, filled_argument, steps_after, keyword_types, pickle_steps}
@@ -94,11 +94,11 @@ all_steps w fills background f g (s ∷ ss) b h =
 
 -- ---- pickles
 
-pub record InheritedOf (w : Wanted) (a : Inherited) : Type 0 where
+pub record InheritedOf (w : Wanted) (a : Inheritance) : Type 0 where
   pub tags : AllByRecursion (TagOf w) a.tags
   pub steps : AllByRecursion (StepOf w) a.steps
 
-pickle_fine : (w : Wanted) → Fills w → (a : Inherited) → InheritedOf w a → (s : Scenario) → ScenarioOf w s → (tags : List Tag) → AllByRecursion (TagOf w) tags → (f : Filling) → FillingOf w f
+pickle_fine : (w : Wanted) → Fills w → (a : Inheritance) → InheritedOf w a → (s : Scenario) → ScenarioOf w s → (tags : List Tag) → AllByRecursion (TagOf w) tags → (f : Filling) → FillingOf w f
     → PickleFine w (pickle_of a s tags f)
 pickle_fine w fills a inherited s h tags t f g = (
   text_filled w fills f g s.name h.4,
@@ -107,7 +107,7 @@ pickle_fine w fills a inherited s h tags t f g = (
   all_steps w fills a.steps f g s.steps inherited.steps h.6,
 )
 
-table_fine : (w : Wanted) → Fills w → (a : Inherited) → InheritedOf w a → (s : Scenario) → ScenarioOf w s → (tags : List Tag) → AllByRecursion (TagOf w) tags → (t : Option ExampleTable) → TableOf w t
+table_fine : (w : Wanted) → Fills w → (a : Inheritance) → InheritedOf w a → (s : Scenario) → ScenarioOf w s → (tags : List Tag) → AllByRecursion (TagOf w) tags → (t : Option ExampleTable) → TableOf w t
     → AllByRecursion (PickleFine w) (table_pickles a s tags t)
 table_fine w fills a inherited s h tags t None k = tt
 table_fine w fills a inherited s h tags t (Some table) k =
@@ -115,12 +115,12 @@ table_fine w fills a inherited s h tags t (Some table) k =
     (λ row r. pickle_fine w fills a inherited s h tags t (row_filling table.header row)
     (record { header = values w table.header.location.line table.header.cells k.0.2; cells = values w row.location.line row.cells r.2; rows = (r.0, tt) })) table.body k.1
 
-outline_fine : (w : Wanted) → Fills w → (a : Inherited) → InheritedOf w a → (s : Scenario) → ScenarioOf w s → (es : List Examples) → AllByRecursion (ExamplesOf w) es → AllByRecursion (PickleFine w) (outline_pickles a s es)
+outline_fine : (w : Wanted) → Fills w → (a : Inheritance) → InheritedOf w a → (s : Scenario) → ScenarioOf w s → (es : List Examples) → AllByRecursion (ExamplesOf w) es → AllByRecursion (PickleFine w) (outline_pickles a s es)
 outline_fine w fills a inherited s h [] k = (pickle_fine w fills a inherited s h [] tt no_filling (none_filled w), tt)
 outline_fine w fills a inherited s h (e ∷ es) k =
     all_flat (ExamplesOf w) (PickleFine w) (examples_pickles a s) (λ x g. table_fine w fills a inherited s h x.tags g.0 x.table g.6) (e ∷ es) k
 
-scenarios_fine : (w : Wanted) → Fills w → (a : Inherited) → InheritedOf w a → (ss : List Scenario) → AllByRecursion (ScenarioOf w) ss → AllByRecursion (PickleFine w) (flat_map (scenario_pickles a) ss)
+scenarios_fine : (w : Wanted) → Fills w → (a : Inheritance) → InheritedOf w a → (ss : List Scenario) → AllByRecursion (ScenarioOf w) ss → AllByRecursion (PickleFine w) (flat_map (scenario_pickles a) ss)
 scenarios_fine w fills a inherited ss h = all_flat (ScenarioOf w) (PickleFine w) (scenario_pickles a) (λ s k. outline_fine w fills a inherited s k s.examples k.7) ss h
 
 background_fine : (w : Wanted) (b : Option Background) → BackgroundOf w b → AllByRecursion (StepOf w) (background_steps b)

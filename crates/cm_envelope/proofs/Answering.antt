@@ -2,7 +2,7 @@
 use Rattle.std.proofs.Common.{◌≡◌, ℕ, ◌+◌, ◌-◌, ◌≤◌, Bool, true, false, not, List, [], ◌++◌, slice_range, Some, None, Ok, Err, refl, subst, arith}
 use Rattle.std.specs.Prelude.{IfSome, IfNone}
 use Rattle.cm_envelope.specs.Device.{Hears, Input, OfInput}
-use Rattle.cm_envelope.specs.Feeds.{Stored, NextLine, AnswersFirst, OnLine, IsLineWithin, EndsWithSource, Leaves, last_answer, feed_left}
+use Rattle.cm_envelope.specs.Feeds.{FeedState, NextLine, AnswersFirst, OnLine, IsLineWithin, EndsWithSource, Leaves, last_answer, feed_left}
 use Rattle.cm_envelope.specs.Held.{Finds}
 use Rattle.cm_envelope.specs.Lines.{size}
 use Rattle.cm_envelope.specs.declared.feed.Trouble.{Trouble}
@@ -12,7 +12,7 @@ use Rattle.cm_envelope.proofs.Sources.{hears_nothing, of_any}
 use Rattle.cm_envelope.proofs.Taking.{Takes, takes_first, gives-refusal, refusal_first}
 
 -- what the clauses of a call ask that read nothing of the source itself
-pub record Answer (old new : Stored) (before after : Input) (answer : NextLine) : Type 0 where
+pub record Answer (old new : FeedState) (before after : Input) (answer : NextLine) : Type 0 where
   pub repeats : IfSome old.over (λ over. answer ≡ last_answer over)
   pub first : IfNone old.over (OfInput before after (λ bytes. AnswersFirst (feed_left old bytes) answer))
   pub line : OnLine answer (IsLineWithin old.line_limit)
@@ -160,12 +160,12 @@ same_trouble ll sl g held is_ended t input =
     }
 
 -- the same of equal values
-pub same_answer : {old new old_is new_is : Stored} {before after : Input} {answer : NextLine}
+pub same_answer : {old new old_is new_is : FeedState} {before after : Input} {answer : NextLine}
     → Answer old new before after answer → old ≡ old_is → new ≡ new_is → Answer old_is new_is before after answer
 same_answer {old} {new} {old_is} {new_is} {before} {after} {answer} a o n =
-    subst (λ (x : Stored). Answer x new_is before after answer) o (subst (λ (x : Stored). Answer old x before after answer) n a)
+    subst (λ (x : FeedState). Answer x new_is before after answer) o (subst (λ (x : FeedState). Answer old x before after answer) n a)
 
-pub same_line : {old new old_is new_is : Stored} {before after : Input} {line line_is : List ℕ}
+pub same_line : {old new old_is new_is : FeedState} {before after : Input} {line line_is : List ℕ}
     → Answer old new before after (Ok (Some line)) → old ≡ old_is → new ≡ new_is → line ≡ line_is → Answer old_is new_is before after (Ok (Some line_is))
 same_line {old} {new} {old_is} {new_is} {before} {after} {line} {line_is} a o n l =
     subst (λ (x : List ℕ). Answer old_is new_is before after (Ok (Some x))) l (same_answer a o n)

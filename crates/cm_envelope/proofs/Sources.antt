@@ -4,7 +4,7 @@ use Rattle.std.proofs.lemmas.Bool.Decides.{nat_tests}
 use Rattle.std.specs.Io.KnownBytes.{Consumes, IsAtEnd, Keeps}
 use Rattle.std.proofs.KnownBytes.{Consumes-kept, Consumes-nil, Consumes-trans}
 use Rattle.cm_envelope.specs.Device.{Input, Hears, OfReads, OfInput, OfWhole, is_end}
-use Rattle.cm_envelope.specs.Feeds.{Stored, NextLine, EndsWithSource, GivesNext, Leaves}
+use Rattle.cm_envelope.specs.Feeds.{FeedState, NextLine, EndsWithSource, GivesNext, Leaves}
 
 pub end_of : (n : ℕ) (piece : List ℕ) → is_end n piece ≡ true → (n ≡ 0) × (0 < length piece)
 end_of n piece h = grind (arith, nat_tests)
@@ -66,19 +66,19 @@ of_any a f = ([], hears_nothing a, λ rest may. f rest)
 -- ---- what a feed has read
 
 -- P holds of what a feed has read and any bytes that may still come, which are none once it has read the end
-abbrev pub HasReadSo : Stored → Input → Input → (List ℕ → List ℕ → Type 0) → Type 0
+abbrev pub HasReadSo : FeedState → Input → Input → (List ℕ → List ℕ → Type 0) → Type 0
 HasReadSo feed a b P =
     (read : List ℕ) × Hears a b read
     × ((rest : List ℕ) → (feed.is_ended ≡ true → rest ≡ []) → P (read ++ rest) rest)
 
-pub read_so_far : (P : List ℕ → List ℕ → Type 0) (feed : Stored) (a : Input) → ((xs : List ℕ) → P xs xs) → HasReadSo feed a a P
+pub read_so_far : (P : List ℕ → List ℕ → Type 0) (feed : FeedState) (a : Input) → ((xs : List ℕ) → P xs xs) → HasReadSo feed a a P
 read_so_far P feed a f = ([], hears_nothing a, λ rest none. f rest)
 
 nothing_more : (more rest : List ℕ) → more ≡ [] → rest ≡ [] → more ++ rest ≡ []
 nothing_more more rest m r = rw (m, r) refl
 
 -- one call more
-pub reads_then : {P R : List ℕ → List ℕ → Type 0} {answer : NextLine} (feed later : Stored) (a b c : Input) → HasReadSo feed a b P → feed.over ≡ None → Leaves feed later b c answer
+pub reads_then : {P R : List ℕ → List ℕ → Type 0} {answer : NextLine} (feed later : FeedState) (a b c : Input) → HasReadSo feed a b P → feed.over ≡ None → Leaves feed later b c answer
     → ((xs ys zs : List ℕ) → (later.is_ended ≡ true → zs ≡ []) → P xs ys → GivesNext feed later ys zs answer → R xs zs) → HasReadSo later a c R
 reads_then {P} {R} feed later a b c p still l f = (
   p.0 ++ l.read,
@@ -90,5 +90,5 @@ reads_then {P} {R} feed later a b c p still l f = (
 )
 
 -- and no further call
-pub reads_no_more : (P : List ℕ → List ℕ → Type 0) (feed : Stored) (a b : Input) → HasReadSo feed a b P → EndsWithSource feed b → OfReads a b P
+pub reads_no_more : (P : List ℕ → List ℕ → Type 0) (feed : FeedState) (a b : Input) → HasReadSo feed a b P → EndsWithSource feed b → OfReads a b P
 reads_no_more P feed a b p ends = (p.0, p.1, λ rest may. p.2 rest (λ e. may (ends e)))

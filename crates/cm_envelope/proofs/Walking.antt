@@ -12,23 +12,23 @@ use Rattle.serde_json.specs.Find.{as_null, as_object, get, get_member}
 use Rattle.serde_json.specs.View.{view, members_view}
 use Rattle.serde_json.proofs.Views.{Entry, member_here, member_later}
 use Rattle.cm_envelope.specs.declared.member.Member.{Member}
-use Rattle.cm_envelope.specs.Member.{Named, unless_null}
+use Rattle.cm_envelope.specs.Member.{NamedMember, unless_null}
 use Rattle.cm_envelope.specs.Members.{value_of, as_named, with_value, or_before, looked_for, AreFound}
 use Rattle.cm_envelope.proofs.Judged.{absent}
 
 -- once this member of the object is passed
-abbrev pub past : Entry → Named → Named
+abbrev pub past : Entry → NamedMember → NamedMember
 past e m = cond (is_some (as_null (view e.1))) m (with_value (string_bytes e.0) (view e.1) m)
 
 -- once these are
-abbrev pub past_all : List Entry → Named → Named
+abbrev pub past_all : List Entry → NamedMember → NamedMember
 past_all [] m = m
 past_all (e ∷ es) m = past_all es (past e m)
 
-abbrev the_same : List ℕ → Option Data → Named
+abbrev the_same : List ℕ → Option Data → NamedMember
 the_same name d = (name, d)
 
-abbrev looked_at : List ℕ → Option Data → Option Data → Named
+abbrev looked_at : List ℕ → Option Data → Option Data → NamedMember
 looked_at name before d = (name, or_before d before)
 
 -- what is found of a member of this name
@@ -99,27 +99,27 @@ get_of_none (string s) is name = refl
 get_of_none (array ds) is name = refl
 get_of_none (object ns) is name = absurd cc
 
-same_maps : (f g : Named → Named) → ((m : Named) → f m ≡ g m) → (ms : List Named) → map f ms ≡ map g ms
+same_maps : (f g : NamedMember → NamedMember) → ((m : NamedMember) → f m ≡ g m) → (ms : List NamedMember) → map f ms ≡ map g ms
 same_maps f g same [] = refl
 same_maps f g same (m ∷ ms) = let rest = same_maps f g same ms in λ i. same m i ∷ rest i
 
 -- ---- member by member
 
-pub walk_starts : (d : Data) (es : List Entry) → as_object d ≡ Some (members_view es) → IsStrictlySortedBy string_cmp (keys_of es) → (ms : List Named) → map (past_all es) ms ≡ map (looked_for d) ms
+pub walk_starts : (d : Data) (es : List Entry) → as_object d ≡ Some (members_view es) → IsStrictlySortedBy string_cmp (keys_of es) → (ms : List NamedMember) → map (past_all es) ms ≡ map (looked_for d) ms
 walk_starts d es is sorted ms = same_maps _ _ (λ m. found_by_walk m.0 m.1 es sorted ∙ ap (λ o. looked_at m.0 m.1 (option_and_then unless_null o)) (sym (get_of_object d (members_view es) is m.0))) ms
 
-pub nothing_found : (d : Data) → as_object d ≡ None → (ms : List Named) → ms ≡ map (looked_for d) ms
+pub nothing_found : (d : Data) → as_object d ≡ None → (ms : List NamedMember) → ms ≡ map (looked_for d) ms
 nothing_found d is ms = sym (map-id ms) ∙ same_maps _ _ (λ m. kept_before m.0 m.1 ∙ ap (λ o. looked_at m.0 m.1 (option_and_then unless_null o)) (sym (get_of_none d is m.0))) ms
   where
     kept_before : (name : List ℕ) (before : Option Data) → the_same name before ≡ looked_at name before None
     kept_before name None = refl
     kept_before name (Some d) = refl
 
-module _ (es : List Entry) (ms : List Named) (total : List Named) (so_far : map (past_all es) ms ≡ total) where
-  pub walk_goes_on : (e : Entry) (rest : List Entry) (new : List Named) → es ≡ e ∷ rest → is_some (as_null (view e.1)) ≡ false → new ≡ map (with_value (string_bytes e.0) (view e.1)) ms → map (past_all rest) new ≡ total
+module _ (es : List Entry) (ms : List NamedMember) (total : List NamedMember) (so_far : map (past_all es) ms ≡ total) where
+  pub walk_goes_on : (e : Entry) (rest : List Entry) (new : List NamedMember) → es ≡ e ∷ rest → is_some (as_null (view e.1)) ≡ false → new ≡ map (with_value (string_bytes e.0) (view e.1)) ms → map (past_all rest) new ≡ total
   walk_goes_on e rest new is not_null noted_all = ap (map (past_all rest)) noted_all ∙ go ms ∙ sym (ap (λ es. map (past_all es) ms) is) ∙ so_far
     where
-      go : (ms : List Named) → map (past_all rest) (map (with_value (string_bytes e.0) (view e.1)) ms) ≡ map (past_all (e ∷ rest)) ms
+      go : (ms : List NamedMember) → map (past_all rest) (map (with_value (string_bytes e.0) (view e.1)) ms) ≡ map (past_all (e ∷ rest)) ms
       go [] = refl
       go (m ∷ ms) = let first = ap (λ b. past_all rest (cond b m (with_value (string_bytes e.0) (view e.1) m))) (sym not_null) in let others = go ms in λ i. first i ∷ others i
 
@@ -151,7 +151,7 @@ module _ (name : List ℕ) (d : Data) (old ms : List Member) (i : ℕ) (x : Memb
 
 -- ---- what was found of each
 
-module _ (ms : List Member) (ns : List Named) (is : map as_named ms ≡ ns) where
+module _ (ms : List Member) (ns : List NamedMember) (is : map as_named ms ≡ ns) where
   pub nth : (i : ℕ) (x : Member) → i < length ns → as_named (get_or ms i x) ≡ get_or ns i (as_named x)
   nth i x h =
       let within : i < length ms = omega (arith, length-map ms as_named, ap length is) in

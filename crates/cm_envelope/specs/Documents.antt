@@ -30,7 +30,7 @@ use Rattle.cm_envelope.specs.declared.read_documents.TaggedHeading.{TaggedHeadin
 use Rattle.cm_envelope.specs.declared.read_documents.Body.{Body}
 use Rattle.cm_envelope.specs.declared.read_documents.FeatureHeading.{FeatureHeading}
 use Rattle.cm_envelope.specs.declared.read_documents.FeatureBody.{FeatureBody}
-use Rattle.cm_envelope.specs.Member.{◌>>=◌, FailsAtMember, Named, member_of, all_items, good, required_in, required_member, nested_in, nested_member, optional_nested_in, list_of, items_in, present_member, rule, media_type_member, as_whole_number}
+use Rattle.cm_envelope.specs.Member.{◌>>=◌, FailsAtMember, NamedMember, member_of, all_items, good, required_in, required_member, nested_in, nested_member, optional_nested_in, list_of, items_in, present_member, rule, media_type_member, as_whole_number}
 
 abbrev pub Ids : Type 0
 Ids = List (List ℕ)
@@ -113,7 +113,7 @@ are_in_order in_feature least (item d ds) =
     (rank_of in_feature d)) false
 
 -- the children, once each has its kind and they are in order
-abbrev pub ordered_children : Bool → Named → Result Items (List ℕ)
+abbrev pub ordered_children : Bool → NamedMember → Result Items (List ℕ)
 ordered_children in_feature m = do
   children ← items_in m.0 m.1
   checked ← rule m.0 (are_in_order in_feature 0 children)
@@ -150,7 +150,7 @@ doc_string d = do
 -- ---- nodes
 
 -- what a node that has an id begins with
-abbrev pub mark_in : Named → Named → Result Mark (List ℕ)
+abbrev pub mark_in : NamedMember → NamedMember → Result Mark (List ℕ)
 mark_in own_id at = do
   id ← required_in as_str own_id.0 own_id.1
   place ← nested_in location at.0 at.1
@@ -189,7 +189,7 @@ argument_of None (Some text) = Some (Text text)
 argument_of None None = None
 
 -- the argument of a step
-abbrev pub argument_in : Named → Named → Ids → NodeRead (Option Argument)
+abbrev pub argument_in : NamedMember → NamedMember → Ids → NodeRead (Option Argument)
 argument_in of_table of_text ids = do
   table ← optional_node_in data_table of_table.0 ids of_table.1
   checked ← rule of_text.0 (not (is_some of_table.1 && is_some of_text.1))
@@ -200,7 +200,7 @@ abbrev pub argument : Ids → Data → NodeRead (Option Argument)
 argument ids d = argument_in (member_of (codes "dataTable") d) (member_of (codes "docString") d) ids
 
 -- the keyword, and the name or a step's text
-abbrev pub title_in : Named → Named → Result Title (List ℕ)
+abbrev pub title_in : NamedMember → NamedMember → Result Title (List ℕ)
 title_in of_keyword of_text = do
   keyword ← required_in as_str of_keyword.0 of_keyword.1
   text ← required_in as_str of_text.0 of_text.1
@@ -210,7 +210,7 @@ abbrev pub title : List ℕ → Data → Result Title (List ℕ)
 title name d = title_in (member_of (codes "keyword") d) (member_of name d)
 
 -- what a step and a background begin with
-abbrev pub heading_in : Named → Named → Named → Named → Ids → NodeRead Heading
+abbrev pub heading_in : NamedMember → NamedMember → NamedMember → NamedMember → Ids → NodeRead Heading
 heading_in own_id at of_keyword of_text ids = do
   own ← mark_in own_id at
   words ← title_in of_keyword of_text
@@ -266,7 +266,7 @@ abbrev pub is_object : Data → Bool
 is_object d = is_some (as_object d)
 
 -- Each element of the body is an object, and a body that isn't empty needs a header.
-abbrev pub body_rows_in : Bool → Named → Result Items (List ℕ)
+abbrev pub body_rows_in : Bool → NamedMember → Result Items (List ℕ)
 body_rows_in has_header m = do
   rows ← items_in m.0 m.1
   objects ← rule m.0 (all_items is_object rows)
@@ -276,7 +276,7 @@ body_rows_in has_header m = do
 abbrev pub body_rows : Bool → Data → Result Items (List ℕ)
 body_rows has_header d = body_rows_in has_header (member_of (codes "tableBody") d)
 
-abbrev pub example_table_in : Named → Named → Ids → NodeRead (Option ExampleTable)
+abbrev pub example_table_in : NamedMember → NamedMember → Ids → NodeRead (Option ExampleTable)
 example_table_in of_header of_body ids = do
   header ← optional_node_in row of_header.0 ids of_header.1
   rows ← body_rows_in (is_some header.0) of_body
@@ -288,7 +288,7 @@ example_table ids d =
     example_table_in (member_of (codes "tableHeader") d) (member_of (codes "tableBody") d) ids
 
 -- what an examples block, a scenario and a rule begin with
-abbrev pub tagged_heading_in : Named → Named → Named → Named → Named → Ids
+abbrev pub tagged_heading_in : NamedMember → NamedMember → NamedMember → NamedMember → NamedMember → Ids
     → NodeRead TaggedHeading
 tagged_heading_in own_id at of_tags of_keyword of_name ids = do
   own ← mark_in own_id at
@@ -369,7 +369,7 @@ rule_node ids d = do
   )
 
 -- what a feature begins with, which has no id
-abbrev pub feature_heading_in : Named → Named → Named → Named → Named → Ids
+abbrev pub feature_heading_in : NamedMember → NamedMember → NamedMember → NamedMember → NamedMember → Ids
     → NodeRead FeatureHeading
 feature_heading_in at of_tags of_language of_keyword of_name ids = do
   place ← nested_in location at.0 at.1
@@ -388,7 +388,7 @@ feature_heading ids d =
     ids
 
 -- the children of a feature, by kind
-abbrev pub feature_body_in : Named → Ids → NodeRead FeatureBody
+abbrev pub feature_body_in : NamedMember → Ids → NodeRead FeatureBody
 feature_body_in m ids = do
   children ← ordered_children true m
   parts ← body ids children

@@ -1,7 +1,7 @@
 -- What a feed stores between two calls, and what one call does to it.
 use Rattle.std.specs.Prelude.{ℕ, ◌≡◌, ◌+◌, ◌<◌, ◌≤◌, ◌⊎◌, ⊤, Bool, true, false, not, IsTrue, ◌||◌, ◌==◌, List, [], ◌∷◌, ◌++◌, length, Option, Some, None, Result, Ok, Err, IsSome, if◌then◌else◌}
 use Rattle.cm_envelope.specs.Device.{Hears, Input}
-use Rattle.cm_envelope.specs.Lines.{Line, Fed, size, line_feed, lines_of, feed_lines, max_piece_bytes, trouble_of, nothing, trouble_alone, line_then}
+use Rattle.cm_envelope.specs.Lines.{Line, FeedAnswers, size, line_feed, lines_of, feed_lines, max_piece_bytes, trouble_of, nothing, trouble_alone, line_then}
 use Rattle.cm_envelope.specs.declared.feed.Trouble.{Trouble}
 use Rattle.cm_envelope.specs.declared.feed.Trouble.TheVariants.{ReadFailed, LineTooLong, StreamTooLong, Memory}
 use Rattle.cm_envelope.specs.declared.feed.Over.{Over}
@@ -9,7 +9,7 @@ use Rattle.cm_envelope.specs.declared.feed.Over.TheVariants.{Ended, Failed}
 use denote.Ref.{Bor}
 
 -- what a feed stores
-pub record Stored : Type 0 where
+pub record FeedState : Type 0 where
   pub line_limit : ℕ
   pub stream_limit : ℕ
   -- the bytes read and not yet given
@@ -22,7 +22,7 @@ pub record Stored : Type 0 where
   pub over : Option Over
 
 -- a new feed
-abbrev pub new_feed : ℕ → ℕ → Stored
+abbrev pub new_feed : ℕ → ℕ → FeedState
 new_feed line_limit stream_limit =
     record {
       line_limit = line_limit;
@@ -64,7 +64,7 @@ abbrev pub bytes_with_end : Line → List ℕ
 bytes_with_end l = l.bytes ++ (if l.has_end then line_feed ∷ [] else [])
 
 -- a call finds its answer without a read: it was answered for good, the end was read, or a whole line is held
-abbrev pub NeedsNoRead : Stored → Type 0
+abbrev pub NeedsNoRead : FeedState → Type 0
 NeedsNoRead s = IsSome s.over ⊎ (IsTrue s.is_ended ⊎ IsTrue (has_line_feed s.held))
 
 -- it is that a read failed
@@ -73,11 +73,11 @@ is_failed_read (Err ReadFailed) = true
 is_failed_read _ = false
 
 -- the bytes not yet given: those held, and those to come where the end wasn't read yet
-abbrev pub not_given : Stored → List ℕ → List ℕ
+abbrev pub not_given : FeedState → List ℕ → List ℕ
 not_given s to_come = if s.is_ended then s.held else s.held ++ to_come
 
 -- what is left to answer
-abbrev pub feed_left : Stored → List ℕ → Fed
+abbrev pub feed_left : FeedState → List ℕ → FeedAnswers
 feed_left s to_come =
     feed_lines s.line_limit s.stream_limit s.given (lines_of (not_given s to_come))
 
@@ -88,7 +88,7 @@ first_answer [] (Some t) = Err t
 first_answer [] None = Ok None
 
 -- the answer is the first of what is left, unless a read failed or memory was refused
-abbrev pub AnswersFirst : Fed → NextLine → Type 0
+abbrev pub AnswersFirst : FeedAnswers → NextLine → Type 0
 AnswersFirst fed (Err ReadFailed) = ⊤
 AnswersFirst fed (Err Memory) = ⊤
 AnswersFirst fed answer = answer ≡ first_answer fed.lines fed.trouble
@@ -98,7 +98,7 @@ abbrev pub IsLineWithin : ℕ → List ℕ → Type 0
 IsLineWithin limit line = (has_line_feed line ≡ false) × (length line ≤ limit)
 
 -- where the feed has read the end, the source's last answer was the end
-abbrev pub EndsWithSource : Stored → Input → Type 0
+abbrev pub EndsWithSource : FeedState → Input → Type 0
 EndsWithSource s input = s.is_ended ≡ true → input.is_over ≡ true
 
 -- these bytes are no whole line, and no limit is passed in them
@@ -108,11 +108,11 @@ pub record ShowNothing (line_limit stream_limit before : ℕ) (bytes : List ℕ)
       (record { bytes = bytes; has_end = false }) ≡ None
 
 -- a line that was given: a LF ends it, unless the end was read
-abbrev pub given_line : Stored → List ℕ → Line
+abbrev pub given_line : FeedState → List ℕ → Line
 given_line new line = record { bytes = line; has_end = not new.is_ended }
 
 -- what giving a line leaves, of any source
-pub record GivesLine (old new : Stored) (line : List ℕ) : Type 0 where
+pub record GivesLine (old new : FeedState) (line : List ℕ) : Type 0 where
   -- it is a line, and passes no limit
   pub clean : has_line_feed line ≡ false
   pub no_trouble : trouble_of old.line_limit old.stream_limit old.given (given_line new line) ≡ None
@@ -124,12 +124,12 @@ pub record GivesLine (old new : Stored) (line : List ℕ) : Type 0 where
   pub ahead : length new.held ≤ max_piece_bytes
 
 -- the line is the first of what was left, and the others are left
-pub record IsNextLine (old new : Stored) (before after line : List ℕ) : Type 0 where
+pub record IsNextLine (old new : FeedState) (before after line : List ℕ) : Type 0 where
   pub first : feed_left old before ≡ line_then line (feed_left new after)
   pub bytes : not_given old before ≡ bytes_with_end (given_line new line) ++ not_given new after
 
 -- what a feed that wasn't over answers, with these bytes to come before and after
-abbrev pub GivesNext : (old new : Stored) (before after : List ℕ) → NextLine → Type 0
+abbrev pub GivesNext : (old new : FeedState) (before after : List ℕ) → NextLine → Type 0
 GivesNext old new before after (Ok (Some line)) = IsNextLine old new before after line
 GivesNext old new before after (Ok None) = feed_left old before ≡ nothing
 GivesNext old new before after (Err ReadFailed) =
@@ -141,7 +141,7 @@ GivesNext old new before after (Err StreamTooLong) =
 GivesNext old new before after (Err Memory) = ⊤
 
 -- any bytes may come after a call, but none where the call read the end
-abbrev pub MayBeLeft : (old new : Stored) → List ℕ → Type 0
+abbrev pub MayBeLeft : (old new : FeedState) → List ℕ → Type 0
 MayBeLeft old new rest = old.is_ended ≡ false → new.is_ended ≡ true → rest ≡ []
 
 -- P of the line, where one is answered
@@ -151,7 +151,7 @@ OnLine (Ok None) P = ⊤
 OnLine (Err t) P = ⊤
 
 -- what one call leaves
-pub record Leaves (old new : Stored) (before after : Input) (answer : NextLine) : Type 0 where
+pub record Leaves (old new : FeedState) (before after : Input) (answer : NextLine) : Type 0 where
   -- the limits stay
   pub line_limit : new.line_limit ≡ old.line_limit
   pub stream_limit : new.stream_limit ≡ old.stream_limit

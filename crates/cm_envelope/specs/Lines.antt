@@ -1,17 +1,12 @@
 -- The lines of some bytes (NDJSON: a line is ended by LF), and what a feed of them answers under two limits.
 use Rattle.std.specs.Prelude.{ℕ, ◌+◌, ◌==◌, ◌&&◌, ◌||◌, nat_lt, Bool, true, false, List, [], ◌∷◌, length, Option, Some, None, if◌then◌else◌}
 use Rattle.std.specs.List.{list_all}
+pub use Rattle.gk_document.specs.Texts.{line_feed, carriage_return}
 use Rattle.cm_envelope.specs.declared.feed.Trouble.{Trouble}
 use Rattle.cm_envelope.specs.declared.feed.Trouble.TheVariants.{LineTooLong, StreamTooLong}
 
-abbrev pub line_feed : ℕ
-line_feed = 10
-
 abbrev pub tab : ℕ
 tab = 9
-
-abbrev pub carriage_return : ℕ
-carriage_return = 13
 
 abbrev pub space : ℕ
 space = 32
@@ -64,34 +59,34 @@ trouble_of line_limit stream_limit before l =
     else None
 
 -- what a feed answers: lines, and then a trouble or the end
-pub record Fed : Type 0 where
+pub record FeedAnswers : Type 0 where
   pub lines : List (List ℕ)
   pub trouble : Option Trouble
 
 -- no line, and the end
-abbrev pub nothing : Fed
+abbrev pub nothing : FeedAnswers
 nothing = record { lines = []; trouble = None }
 
 -- no line, and a trouble
-abbrev pub trouble_alone : Trouble → Fed
+abbrev pub trouble_alone : Trouble → FeedAnswers
 trouble_alone t = record { lines = []; trouble = Some t }
 
 -- a line, and then the others
-abbrev pub line_then : List ℕ → Fed → Fed
+abbrev pub line_then : List ℕ → FeedAnswers → FeedAnswers
 line_then l fed = record { lines = l ∷ fed.lines; trouble = fed.trouble }
 
 -- a line's trouble alone, or the line and then the others
-abbrev pub unless_trouble : Option Trouble → List ℕ → Fed → Fed
+abbrev pub unless_trouble : Option Trouble → List ℕ → FeedAnswers → FeedAnswers
 unless_trouble (Some t) l fed = trouble_alone t
 unless_trouble None l fed = line_then l fed
 
 -- the lines before the first that is too long, and then that line's trouble, where `before` bytes are before them
-abbrev pub feed_lines : (line_limit stream_limit before : ℕ) → List Line → Fed
+abbrev pub feed_lines : (line_limit stream_limit before : ℕ) → List Line → FeedAnswers
 feed_lines line_limit stream_limit before [] = nothing
 feed_lines line_limit stream_limit before (l ∷ ls) =
     unless_trouble (trouble_of line_limit stream_limit before l) l.bytes
     (feed_lines line_limit stream_limit (before + size l) ls)
 
 -- what a feed of these bytes answers
-abbrev pub feed : List ℕ → (line_limit stream_limit : ℕ) → Fed
+abbrev pub feed : List ℕ → (line_limit stream_limit : ℕ) → FeedAnswers
 feed bytes line_limit stream_limit = feed_lines line_limit stream_limit 0 (lines_of bytes)

@@ -34,10 +34,10 @@ abbrev pub present_member : List ℕ → Data → Option Data
 present_member name d = option_and_then unless_null (get name d)
 
 -- a member: its name, and its value unless it is absent or null
-abbrev pub Named : Type 0
-Named = List ℕ × Option Data
+abbrev pub NamedMember : Type 0
+NamedMember = List ℕ × Option Data
 
-abbrev pub member_of : List ℕ → Data → Named
+abbrev pub member_of : List ℕ → Data → NamedMember
 member_of name d = (name, present_member name d)
 
 abbrev pub as_whole_number : Data → Option ℕ

@@ -4,18 +4,18 @@ use Rattle.std.specs.Str.{bytes_eq}
 use Rattle.serde_json.specs.Data.{Data}
 use Rattle.serde_json.specs.View.{view}
 use Rattle.cm_envelope.specs.declared.member.Member.{Member}
-use Rattle.cm_envelope.specs.Member.{Named, present_member}
+use Rattle.cm_envelope.specs.Member.{NamedMember, present_member}
 
 -- what was found of a member
 abbrev pub value_of : Member → Option Data
 value_of m = option_map (λ v. view v.now) m.value
 
 -- a member's name, and what was found of it
-abbrev pub as_named : Member → Named
+abbrev pub as_named : Member → NamedMember
 as_named m = (m.name.now, value_of m)
 
 -- a member that is given this value where it has this name
-abbrev pub with_value : List ℕ → Data → Named → Named
+abbrev pub with_value : List ℕ → Data → NamedMember → NamedMember
 with_value name d m = if bytes_eq m.0 name then (m.0, Some d) else m
 
 -- What was found before stays where there is no other.
@@ -24,7 +24,7 @@ or_before found None = found
 or_before found (Some d) = Some (unwrap_or found d)
 
 -- a member once it was looked for in the object
-abbrev pub looked_for : Data → Named → Named
+abbrev pub looked_for : Data → NamedMember → NamedMember
 looked_for d m = (m.0, or_before (present_member m.0 d) m.1)
 
 -- The members from the place at on are those of a list, each once it was looked for.

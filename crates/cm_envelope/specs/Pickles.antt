@@ -16,7 +16,7 @@ use Rattle.cm_envelope.specs.declared.pickle.PickleCell.{PickleCell}
 use Rattle.cm_envelope.specs.declared.pickle.PickleDocString.{PickleDocString}
 use Rattle.cm_envelope.specs.declared.read_pickles.PickleTexts.{PickleTexts}
 use Rattle.cm_envelope.specs.declared.read_pickles.PickleLists.{PickleLists}
-use Rattle.cm_envelope.specs.Member.{◌>>=◌, Named, member_of, present_member, required_in, required_member, optional_member, optional_nested_in, optional_nested_member, list_in, list_of, values_in, list_of_values, rule, has_both, media_type_member}
+use Rattle.cm_envelope.specs.Member.{◌>>=◌, NamedMember, member_of, present_member, required_in, required_member, optional_member, optional_nested_in, optional_nested_member, list_in, list_of, values_in, list_of_values, rule, has_both, media_type_member}
 
 -- Messages: PickleStepType
 abbrev pub step_kind_of : List ℕ → Option StepKind
@@ -92,7 +92,7 @@ pickle_step d = do
   below ← argument_member d
   Ok (record { id = id; text = text; kind = kind; ast_node_ids = nodes; argument = below })
 
-abbrev pub texts_in : Named → Named → Named → Named → Result PickleTexts (List ℕ)
+abbrev pub texts_in : NamedMember → NamedMember → NamedMember → NamedMember → Result PickleTexts (List ℕ)
 texts_in own_id of_uri own_name of_language = do
   id ← required_in as_str own_id.0 own_id.1
   uri ← required_in as_str of_uri.0 of_uri.1
@@ -105,7 +105,7 @@ pickle_texts d =
     texts_in (member_of (codes "id") d) (member_of (codes "uri") d) (member_of (codes "name") d)
     (member_of (codes "language") d)
 
-abbrev pub lists_in : Named → Named → Named → Result PickleLists (List ℕ)
+abbrev pub lists_in : NamedMember → NamedMember → NamedMember → Result PickleLists (List ℕ)
 lists_in of_nodes of_tags of_steps = do
   nodes ← values_in as_str of_nodes.0 of_nodes.1
   tags ← list_in pickle_tag of_tags.0 of_tags.1

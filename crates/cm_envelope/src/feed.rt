@@ -70,13 +70,13 @@ pub struct Feed {
 
 impl Model for Feed {
     ghost use Rattle.std.specs.Prelude.{◌≡◌, ◌≤◌, [], None, Some, true, length};
-    ghost use Rattle.cm_envelope.specs.Feeds.{Stored};
+    ghost use Rattle.cm_envelope.specs.Feeds.{FeedState};
     ghost use Rattle.cm_envelope.specs.Held.{items};
     ghost use Rattle.cm_envelope.specs.Lines.{max_piece_bytes};
     ghost use Rattle.cm_envelope.specs.declared.feed.Over.TheVariants.{Ended};
     ghost use Rattle.cm_envelope.specs.declared.feed.TheConstants.{LINE_LIMIT, STREAM_LIMIT};
 
-    ghost Value = { Stored };
+    ghost Value = { FeedState };
 
     ghost view = { λ a. record {
       line_limit = a.line_limit;

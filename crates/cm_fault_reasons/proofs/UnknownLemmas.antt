@@ -18,11 +18,11 @@ use Rattle.cm_audit.specs.Kept.{kept_row}
 use Rattle.cm_audit.specs.State.{summary_of}
 use Rattle.cm_audit.specs.declared.kept_sources.KeptSource.{KeptSource}
 use Rattle.cm_audit.specs.declared.state.State.{State}
-use Rattle.cm_fault_reasons.specs.Unknown.{Told, told_id, told_name, told_uri}
+use Rattle.cm_fault_reasons.specs.Unknown.{ToldName, told_id, told_name, told_uri}
 use Rattle.cm_fault_reasons.specs.UnknownKept.{knows, unknown_among}
 
 -- the first of two
-abbrev pub or_first : Option Told → Option Told → Option Told
+abbrev pub or_first : Option ToldName → Option ToldName → Option ToldName
 or_first None later = later
 or_first (Some t) later = Some t
 
@@ -62,22 +62,22 @@ module _ (s : Summary) where
   abbrev names : Utf8 → TestStep → List Name
   names = test_step_names
 
-  pub step_more : (pickle : Utf8) (steps : List TestStep) (i : ℕ) (step : TestStep) (o : Option Told) → i < length steps → step ≡ get_or steps i step → unknown_among s (flat_map (names pickle) (take i steps)) ≡ None
+  pub step_more : (pickle : Utf8) (steps : List TestStep) (i : ℕ) (step : TestStep) (o : Option ToldName) → i < length steps → step ≡ get_or steps i step → unknown_among s (flat_map (names pickle) (take i steps)) ≡ None
       → o ≡ unknown_among s (names pickle step) → unknown_among s (flat_map (names pickle) (take (i + 1) steps)) ≡ o
   step_more pickle steps i step o less at none is =
       let front : take (i + 1) steps ≡ take i steps ++ step ∷ [] = take_more steps i step less ∙ ap (λ (x : TestStep). take i steps ++ x ∷ []) (sym at) in
       ap (λ (ts : List TestStep). unknown_among s (flat_map (names pickle) ts)) front
       ∙ ap (unknown_among s) (flat_map-append (names pickle) (take i steps) (step ∷ []))
       ∙ among_both (flat_map (names pickle) (take i steps)) (names pickle step ++ [])
-      ∙ ap (λ (t : Option Told). or_first t (unknown_among s (names pickle step ++ []))) none
+      ∙ ap (λ (t : Option ToldName). or_first t (unknown_among s (names pickle step ++ []))) none
       ∙ ap (unknown_among s) (append-nil (names pickle step)) ∙ sym is
 
-  pub steps_told : (pickle : Utf8) (steps : List TestStep) (n : ℕ) (t : Told) → unknown_among s (flat_map (names pickle) (take n steps)) ≡ Some t → Some t ≡ unknown_among s (flat_map (names pickle) steps)
+  pub steps_told : (pickle : Utf8) (steps : List TestStep) (n : ℕ) (t : ToldName) → unknown_among s (flat_map (names pickle) (take n steps)) ≡ Some t → Some t ≡ unknown_among s (flat_map (names pickle) steps)
   steps_told pickle steps n t is =
       sym (ap (λ (ts : List TestStep). unknown_among s (flat_map (names pickle) ts)) (sym (take-append-drop n steps))
       ∙ ap (unknown_among s) (flat_map-append (names pickle) (take n steps) (drop n steps))
       ∙ among_both (flat_map (names pickle) (take n steps)) (flat_map (names pickle) (drop n steps))
-      ∙ ap (λ (o : Option Told). or_first o (unknown_among s (flat_map (names pickle) (drop n steps)))) is)
+      ∙ ap (λ (o : Option ToldName). or_first o (unknown_among s (flat_map (names pickle) (drop n steps)))) is)
 
 -- ---- sources
 

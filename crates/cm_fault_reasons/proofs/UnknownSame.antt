@@ -29,7 +29,7 @@ use Rattle.cm_stream.proofs.Lists.{or_no}
 use Rattle.cm_stream.proofs.Passing.{AllPass, plain_passes}
 use Rattle.cm_stream.proofs.TableSteps.{AreAccepted, none_is_refused}
 use Rattle.cm_stream.proofs.TableWords.{attempt_told, step_told}
-use Rattle.cm_fault_reasons.specs.Unknown.{Told, first_unknown, told_id, told_name}
+use Rattle.cm_fault_reasons.specs.Unknown.{ToldName, first_unknown, told_id, told_name}
 use Rattle.cm_fault_reasons.specs.UnknownKept.{attachment_names_by, first_unknown_by, knows, place_names, unknown_among}
 
 module _ (first : ℕ) (es : List Envelope) (pass : AllPass es) (accepted : AreAccepted first es) where
@@ -40,7 +40,7 @@ module _ (first : ℕ) (es : List Envelope) (pass : AllPass es) (accepted : AreA
   abbrev IsSame : Name → Type 0
   IsSame name = not (knows now name) ≡ unknown es name
 
-  told_over : List Name → Option Told
+  told_over : List Name → Option ToldName
   told_over names = option_map told_name (find (unknown es) names)
 
   same_told : (names : List Name) → AllByRecursion IsSame names → unknown_among now names ≡ option_map told_name (find (unknown es) names)
@@ -111,7 +111,7 @@ module _ (first : ℕ) (es : List Envelope) (pass : AllPass es) (accepted : AreA
 
       pick : (b c : Bool) → c ≡ not b → (m n : Name) → told_name m ≡ told_name n → option_map told_name (if not b then Some m else None) ≡ option_map told_name (if c then Some n else None)
       pick true c e m n same = rw e refl
-      pick false c e m n same = rw e (ap (λ (t : Told). Some t) same)
+      pick false c e m n same = rw e (ap (λ (t : ToldName). Some t) same)
 
       both : (t : TestCaseStarted) (row : AttemptRow) → find (is_of a) (starts es) ≡ Some t → find_attempt now.table a ≡ Some row → Same
       both t row e f =

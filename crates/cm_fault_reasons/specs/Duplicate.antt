@@ -5,7 +5,7 @@ use Rattle.cm_envelope.specs.declared.envelope.Envelope.{Envelope}
 use Rattle.cm_envelope.specs.declared.envelope.Envelope.TheVariants as envelope
 use Rattle.cm_stream.specs.References.{find_case, find_pickle}
 use Rattle.cm_stream.specs.Texts.{Utf8}
-use Rattle.cm_fault_reasons.specs.Unknown.{Told, told_id}
+use Rattle.cm_fault_reasons.specs.Unknown.{ToldName, told_id}
 
 -- the first of these ids that is among the ones seen, or stands before in the list
 abbrev pub first_again : (seen : List Utf8) → List Utf8 → Option Utf8
@@ -33,5 +33,5 @@ duplicate_of before (envelope.TestRunHookStarted s) = Some s.id
 duplicate_of before _ = None
 
 -- as it is told
-abbrev pub first_duplicate : (before : List Envelope) → Envelope → Option Told
+abbrev pub first_duplicate : (before : List Envelope) → Envelope → Option ToldName
 first_duplicate before e = option_map told_id (duplicate_of before e)

@@ -15,7 +15,7 @@ use Rattle.cm_fault_reasons.specs.AttemptLines.{declared_lines, due_number, numb
 use Rattle.cm_fault_reasons.specs.Duplicate.{first_duplicate}
 use Rattle.cm_fault_reasons.specs.NextMove.{next_step}
 use Rattle.cm_fault_reasons.specs.RunLines.{IsRefusedAt, IsTruthAt, ended_hook_lines, hook_open_lines, open_case_lines}
-use Rattle.cm_fault_reasons.specs.Unknown.{Told, first_unknown, told_lines, told_uri}
+use Rattle.cm_fault_reasons.specs.Unknown.{ToldName, first_unknown, told_lines, told_uri}
 
 -- ---- a uri, or an id
 
@@ -27,12 +27,12 @@ uri_of (envelope.ParseError p) = Some p.source.uri
 uri_of (envelope.Pickle p) = Some p.uri
 uri_of _ = None
 
-abbrev pub told_uri_of : Envelope → Option Told
+abbrev pub told_uri_of : Envelope → Option ToldName
 told_uri_of e = option_map told_uri (uri_of e)
 
 -- what is told of an envelope after these that has the finding: the uri, the first reference that isn't declared, or the id that
 -- is declared again
-abbrev pub told_at : (before : List Envelope) → Envelope → Finding → Option Told
+abbrev pub told_at : (before : List Envelope) → Envelope → Finding → Option ToldName
 told_at before e (IsBad bad.DuplicateUri) = told_uri_of e
 told_at before e (IsBad bad.ParseErrorOfGoodSource) = told_uri_of e
 told_at before e (IsBad bad.UnknownReference) = first_unknown before e

@@ -17,10 +17,10 @@ use Rattle.cm_fault_reasons.specs.AttemptLines.{declared_lines, number_lines, or
 use Rattle.cm_fault_reasons.specs.DuplicateKept.{duplicate_by}
 use Rattle.cm_fault_reasons.specs.RunLines.{ended_hook_lines, hook_open_lines, open_case_lines}
 use Rattle.cm_fault_reasons.specs.ToldAt.{reason_lines, told_uri_of}
-use Rattle.cm_fault_reasons.specs.Unknown.{Told, told_id, told_lines}
+use Rattle.cm_fault_reasons.specs.Unknown.{ToldName, told_id, told_lines}
 use Rattle.cm_fault_reasons.specs.UnknownKept.{first_unknown_by}
 
-abbrev pub told_by : Summary → Envelope → Finding → Option Told
+abbrev pub told_by : Summary → Envelope → Finding → Option ToldName
 told_by s e (IsBad bad.DuplicateUri) = told_uri_of e
 told_by s e (IsBad bad.ParseErrorOfGoodSource) = told_uri_of e
 told_by s e (IsBad bad.UnknownReference) = first_unknown_by s e

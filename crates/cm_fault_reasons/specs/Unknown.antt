@@ -8,18 +8,18 @@ use Rattle.cm_stream.specs.References.{Name, SourceOf, DocumentOf, PickleNamed, 
 use Rattle.cm_stream.specs.Texts.{Utf8}
 
 -- a text, and whether it is a uri; otherwise it is an id
-pub record Told : Type 0 where
+pub record ToldName : Type 0 where
   pub is_uri : Bool
   pub text : Utf8
 
-abbrev pub told_uri : Utf8 → Told
+abbrev pub told_uri : Utf8 → ToldName
 told_uri uri = record { is_uri = true; text = uri }
 
-abbrev pub told_id : Utf8 → Told
+abbrev pub told_id : Utf8 → ToldName
 told_id id = record { is_uri = false; text = id }
 
 -- sources and documents are told by their uris, all else by its id
-abbrev pub told_name : Name → Told
+abbrev pub told_name : Name → ToldName
 told_name (SourceOf uri) = told_uri uri
 told_name (DocumentOf uri) = told_uri uri
 told_name (PickleNamed id) = told_id id
@@ -33,14 +33,14 @@ told_name (Attempt id) = told_id id
 told_name (RunHook id) = told_id id
 
 -- the first reference of an envelope, in the order in which it is checked, that none of these declares
-abbrev pub first_unknown : (before : List Envelope) → Envelope → Option Told
+abbrev pub first_unknown : (before : List Envelope) → Envelope → Option ToldName
 first_unknown before e =
     option_map told_name (find (λ name. times_declared name before == 0) (refers before e))
 
 -- `uri URI` or `id ID`
-abbrev pub told_line : Told → List ℕ
+abbrev pub told_line : ToldName → List ℕ
 told_line t =
     (if t.is_uri then codes "uri " else codes "id ") ++ shown_text t.text ++ line_feed ∷ []
 
-abbrev pub told_lines : Option Told → List ℕ
+abbrev pub told_lines : Option ToldName → List ℕ
 told_lines o = option_map_or told_line o []

@@ -11,8 +11,8 @@ use Rattle.cm_state.specs.StateChecks.{knows_run, steps_by}
 use Rattle.cm_state.specs.Summary.{Summary}
 use Rattle.cm_stream.specs.References.{Name, SourceOf, DocumentOf, PickleNamed, PickleStep, Definition, HookNamed, Case, Step, Run, Attempt, RunHook, if_any, test_step_names}
 use Rattle.cm_stream.specs.Texts.{Utf8}
-use Rattle.cm_fault_reasons.specs.Unknown.{Told, told_name}
-use Rattle.cm_fault_reasons.specs.declared.unknown.Told as made
+use Rattle.cm_fault_reasons.specs.Unknown.{ToldName, told_name}
+use Rattle.cm_fault_reasons.specs.declared.unknown.ToldName as made
 
 -- what is kept declares it
 abbrev pub knows : Summary → Name → Bool
@@ -68,12 +68,12 @@ refers_by s (envelope.Attachment a) =
 refers_by s _ = []
 
 -- the first of these that isn't declared, as it is told
-abbrev pub unknown_among : Summary → List Name → Option Told
+abbrev pub unknown_among : Summary → List Name → Option ToldName
 unknown_among s names = option_map told_name (find (λ name. not (knows s name)) names)
 
-abbrev pub first_unknown_by : Summary → Envelope → Option Told
+abbrev pub first_unknown_by : Summary → Envelope → Option ToldName
 first_unknown_by s e = unknown_among s (refers_by s e)
 
 -- what the code tells
-abbrev pub told_view : made.Told → Told
+abbrev pub told_view : made.ToldName → ToldName
 told_view t = record { is_uri = t.is_uri; text = t.text.now }

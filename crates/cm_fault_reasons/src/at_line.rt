@@ -18,7 +18,7 @@ use crate::duplicate::first_duplicate;
 use crate::open_cases::add_open_cases;
 use crate::scenario::{add_declared_scenario, add_misnumbered, add_started};
 use crate::steps::{add_order, add_step_status};
-use crate::unknown::{Told, first_unknown};
+use crate::unknown::{ToldName, first_unknown};
 use cm_attempt::{Policy, Settings};
 use cm_audit::State;
 use cm_cases::add_shown;
@@ -210,7 +210,7 @@ pub fn verdict_told(
 }
 
 /// The uri of the feature file that an envelope is of.
-fn told_uri(envelope: &Envelope) -> Option<Told<'_>>
+fn told_uri(envelope: &Envelope) -> Option<ToldName<'_>>
     ensures { option_map told_view result ≡ told_uri_of envelope.now }
 {
     let uri = match envelope {
@@ -220,18 +220,18 @@ fn told_uri(envelope: &Envelope) -> Option<Told<'_>>
         Envelope::Pickle(pickle) => pickle.uri.as_str(),
         _ => return None,
     };
-    Some(Told {
+    Some(ToldName {
         is_uri: true,
         text: uri,
     })
 }
 
 /// The id, where there is one, to be told.
-fn told_id(id: Option<&str>) -> Option<Told<'_>>
+fn told_id(id: Option<&str>) -> Option<ToldName<'_>>
     ensures { option_map told_view result ≡ option_map told_id (option_map (λ t. t.now) id.entry) }
 {
     let text = id?;
-    Some(Told {
+    Some(ToldName {
         is_uri: false,
         text,
     })
@@ -244,7 +244,7 @@ fn told_at_fault<'a>(
     state: &State,
     envelope: &'a Envelope,
     fault: StreamFault,
-) -> Result<Option<Told<'a>>, AllocError>
+) -> Result<Option<ToldName<'a>>, AllocError>
     ensures { IfOk result (λ told. option_map told_view told
         ≡ told_by (summary_of state.now) envelope.now (IsBad (stream_fault_named fault))) }
 {
@@ -257,7 +257,7 @@ fn told_at_fault<'a>(
 }
 
 /// Adds `uri URI` or `id ID` on a line.
-fn add_line(text: &mut String, told: &Told<'_>) -> Result<(), AllocError>
+fn add_line(text: &mut String, told: &ToldName<'_>) -> Result<(), AllocError>
     ensures { OnOk result (string_bytes text.new
         ≡ string_bytes text.old ++ told_line (told_view told.now)) }
 {
@@ -267,7 +267,7 @@ fn add_line(text: &mut String, told: &Told<'_>) -> Result<(), AllocError>
 }
 
 /// Adds the line of what is told, where something is.
-fn add_told(text: &mut String, told: &Option<Told<'_>>) -> Result<(), AllocError>
+fn add_told(text: &mut String, told: &Option<ToldName<'_>>) -> Result<(), AllocError>
     ensures { OnOk result (string_bytes text.new
         ≡ string_bytes text.old ++ told_lines (option_map told_view told.now)) }
 {

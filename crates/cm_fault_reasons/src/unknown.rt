@@ -14,34 +14,34 @@ use gk_document::Text;
 
 /// A text of a line, and whether it is a uri; otherwise it is an id.
 #[derive(Clone, Copy, Debug)]
-pub(crate) struct Told<'a> {
+pub(crate) struct ToldName<'a> {
     pub(crate) is_uri: bool,
     pub(crate) text: &'a str,
 }
 
 /// The uri, unless it is known.
-fn uri_unless(is_known: bool, uri: &str) -> Option<Told<'_>>
+fn uri_unless(is_known: bool, uri: &str) -> Option<ToldName<'_>>
     ensures { option_map told_view result
         ≡ (if is_known then None else Some (told_uri uri.now)) }
 {
     if is_known {
         return None;
     }
-    Some(Told {
+    Some(ToldName {
         is_uri: true,
         text: uri,
     })
 }
 
 /// The id, unless it is known.
-fn id_unless(is_known: bool, id: &str) -> Option<Told<'_>>
+fn id_unless(is_known: bool, id: &str) -> Option<ToldName<'_>>
     ensures { option_map told_view result
         ≡ (if is_known then None else Some (told_id id.now)) }
 {
     if is_known {
         return None;
     }
-    Some(Told {
+    Some(ToldName {
         is_uri: false,
         text: id,
     })
@@ -61,7 +61,7 @@ fn knows_run(state: &State, id: &Text) -> bool
 }
 
 /// The run that is named, unless it is the one that started.
-fn unknown_run<'a>(state: &State, id: &'a Option<Text>) -> Option<Told<'a>>
+fn unknown_run<'a>(state: &State, id: &'a Option<Text>) -> Option<ToldName<'a>>
     ensures { option_map told_view result
         ≡ unknown_among (summary_of state.now) (map Run (if_any id.now)) }
 {
@@ -72,7 +72,7 @@ fn unknown_run<'a>(state: &State, id: &'a Option<Text>) -> Option<Told<'a>>
 }
 
 /// The source, unless it is declared.
-fn unknown_source<'a>(state: &State, uri: &'a str) -> Option<Told<'a>>
+fn unknown_source<'a>(state: &State, uri: &'a str) -> Option<ToldName<'a>>
     ensures { option_map told_view result
         ≡ unknown_among (summary_of state.now) (SourceOf uri.now ∷ []) }
 {
@@ -80,7 +80,7 @@ fn unknown_source<'a>(state: &State, uri: &'a str) -> Option<Told<'a>>
 }
 
 /// The source or the document of a pickle.
-fn unknown_of_pickle<'a>(state: &State, pickle: &'a Pickle) -> Option<Told<'a>>
+fn unknown_of_pickle<'a>(state: &State, pickle: &'a Pickle) -> Option<ToldName<'a>>
     ensures { option_map told_view result
         ≡ unknown_among (summary_of state.now)
         (SourceOf pickle.now.uri ∷ DocumentOf pickle.now.uri ∷ []) }
@@ -94,7 +94,7 @@ fn unknown_of_pickle<'a>(state: &State, pickle: &'a Pickle) -> Option<Told<'a>>
 }
 
 /// The hook of a test step, unless it is declared.
-fn unknown_hook<'a>(state: &State, step: &'a TestStep) -> Option<Told<'a>>
+fn unknown_hook<'a>(state: &State, step: &'a TestStep) -> Option<ToldName<'a>>
     ensures { option_map told_view result
         ≡ unknown_among (summary_of state.now) (map HookNamed (if_any step.now.hook_id)) }
 {
@@ -105,7 +105,7 @@ fn unknown_hook<'a>(state: &State, step: &'a TestStep) -> Option<Told<'a>>
 }
 
 /// The pickle step of a test step, unless it is one of the pickle.
-fn unknown_pickle_step<'a>(state: &State, pickle: &str, step: &'a TestStep) -> Option<Told<'a>>
+fn unknown_pickle_step<'a>(state: &State, pickle: &str, step: &'a TestStep) -> Option<ToldName<'a>>
     ensures { option_map told_view result
         ≡ unknown_among (summary_of state.now)
         (map (PickleStep pickle.now) (if_any step.now.pickle_step_id)) }
@@ -126,7 +126,7 @@ fn undeclared<'a>(state: &State, ids: &'a [Text]) -> Option<&'a Text>
 }
 
 /// The first of the step definitions that isn't declared.
-fn unknown_definition<'a>(state: &State, ids: &'a [Text]) -> Option<Told<'a>>
+fn unknown_definition<'a>(state: &State, ids: &'a [Text]) -> Option<ToldName<'a>>
     ensures { option_map told_view result
         ≡ unknown_among (summary_of state.now) (map Definition ids.now) }
 {
@@ -137,7 +137,7 @@ fn unknown_definition<'a>(state: &State, ids: &'a [Text]) -> Option<Told<'a>>
 }
 
 /// The first thing that a test step names and that isn't declared.
-fn unknown_of_step<'a>(state: &State, pickle: &str, step: &'a TestStep) -> Option<Told<'a>>
+fn unknown_of_step<'a>(state: &State, pickle: &str, step: &'a TestStep) -> Option<ToldName<'a>>
     ensures { option_map told_view result
         ≡ unknown_among (summary_of state.now) (test_step_names pickle.now step.now) }
 {
@@ -151,7 +151,7 @@ fn unknown_of_step<'a>(state: &State, pickle: &str, step: &'a TestStep) -> Optio
 }
 
 /// The first thing that the test steps name and that isn't declared.
-fn unknown_of_steps<'a>(state: &State, pickle: &str, steps: &'a [TestStep]) -> Option<Told<'a>>
+fn unknown_of_steps<'a>(state: &State, pickle: &str, steps: &'a [TestStep]) -> Option<ToldName<'a>>
     ensures { option_map told_view result
         ≡ unknown_among (summary_of state.now) (flat_map (test_step_names pickle.now) steps.now) }
 {
@@ -164,7 +164,7 @@ fn unknown_of_steps<'a>(state: &State, pickle: &str, steps: &'a [TestStep]) -> O
 }
 
 /// The first thing that a test case names and that isn't declared.
-fn unknown_of_case<'a>(state: &State, case: &'a TestCase) -> Option<Told<'a>>
+fn unknown_of_case<'a>(state: &State, case: &'a TestCase) -> Option<ToldName<'a>>
     ensures { option_map told_view result
         ≡ unknown_among (summary_of state.now) (refers_of_case case.now) }
 {
@@ -179,7 +179,7 @@ fn unknown_of_case<'a>(state: &State, case: &'a TestCase) -> Option<Told<'a>>
 }
 
 /// The attempt, or the step of its case, that isn't declared.
-fn unknown_place<'a>(state: &State, attempt: &'a str, step: &'a str) -> Option<Told<'a>>
+fn unknown_place<'a>(state: &State, attempt: &'a str, step: &'a str) -> Option<ToldName<'a>>
     ensures { option_map told_view result
         ≡ unknown_among (summary_of state.now) (place_names (summary_of state.now) attempt.now
         step.now) }
@@ -191,7 +191,7 @@ fn unknown_place<'a>(state: &State, attempt: &'a str, step: &'a str) -> Option<T
 }
 
 /// What an attachment names and that isn't declared.
-fn unknown_of_attachment<'a>(state: &State, attachment: &'a Attachment) -> Option<Told<'a>>
+fn unknown_of_attachment<'a>(state: &State, attachment: &'a Attachment) -> Option<ToldName<'a>>
     ensures { option_map told_view result
         ≡ unknown_among (summary_of state.now) (attachment_names_by (summary_of state.now)
         attachment.now.test_case_started_id attachment.now.test_step_id) }
@@ -207,7 +207,7 @@ fn unknown_of_attachment<'a>(state: &State, attachment: &'a Attachment) -> Optio
 }
 
 /// The run or the hook of a run hook that isn't declared.
-fn unknown_of_run_hook<'a>(state: &State, started: &'a TestRunHookStarted) -> Option<Told<'a>>
+fn unknown_of_run_hook<'a>(state: &State, started: &'a TestRunHookStarted) -> Option<ToldName<'a>>
     ensures { option_map told_view result
         ≡ unknown_among (summary_of state.now) (map Run (if_any started.now.test_run_started_id)
         ++ HookNamed started.now.hook_id ∷ []) }
@@ -221,7 +221,7 @@ fn unknown_of_run_hook<'a>(state: &State, started: &'a TestRunHookStarted) -> Op
 
 /// The first reference of an envelope that isn't declared. What refers to one thing alone is told without being looked up, since
 /// it is asked only of an envelope with an unknown reference.
-pub(crate) fn first_unknown<'a>(state: &State, envelope: &'a Envelope) -> Option<Told<'a>>
+pub(crate) fn first_unknown<'a>(state: &State, envelope: &'a Envelope) -> Option<ToldName<'a>>
     ensures { option_map told_view result ≡ first_unknown_by (summary_of state.now) envelope.now }
 {
     match envelope {

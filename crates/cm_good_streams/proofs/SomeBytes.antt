@@ -15,7 +15,7 @@ use Rattle.cm_stream.specs.Stream.{IsGoodRun, feed_of, nonblank_lines, read_line
 use Rattle.cm_stream.specs.Release.{each_runs, hold_of}
 use Rattle.cm_stream.proofs.Released.{released_is_not_held, released_exactly}
 use Rattle.cm_stream.proofs.Streams.{run_is_told}
-use Rattle.cm_good_streams.specs.Streams.{retried, interleaved, refused_beside_accepted}
+use Rattle.cm_good_streams.specs.Streams.{retried_stream, interleaved_stream, refused_beside_accepted}
 use Rattle.cm_good_streams.specs.Lines.{bytes_of, retried_lines, interleaved_lines, refused_lines}
 use Rattle.cm_good_streams.specs.Laws.{strict, counts, RetriedBytesAreGood, InterleavedBytesAreGood, RefusedBytesAreGood, RetriedBytesAreReleased, InterleavedBytesAreReleased, RefusedBytesAreHeld}
 use Rattle.cm_good_streams.proofs.SomeGood.{retried_are_good, interleaved_are_good, refused_are_good}
@@ -24,11 +24,11 @@ use Rattle.cm_good_streams.proofs.SomeGood.{retried_are_good, interleaved_are_go
 abbrev AreReadAs : List Utf8 → List Envelope → Type 0
 AreReadAs lines es = map read_line (nonblank_lines 1 (feed_of (bytes_of lines)).lines) ≡ map as_read (enumerate_from 1 es)
 
-retried_read : AreReadAs retried_lines retried
+retried_read : AreReadAs retried_lines retried_stream
 unfolding lex punctuate items members value content code_unit short_escape word after_number number_of scan_numeral chars is_utf8 encode
 retried_read = refl
 
-interleaved_read : AreReadAs interleaved_lines interleaved
+interleaved_read : AreReadAs interleaved_lines interleaved_stream
 unfolding lex punctuate items members value content code_unit short_escape word after_number number_of scan_numeral chars is_utf8 encode
 interleaved_read = refl
 
@@ -38,8 +38,8 @@ refused_read = refl
 
 retried_run : IsGoodRun strict (bytes_of retried_lines) (counts 1 1 1 2) true
 retried_run = record {
-  judged = retried;
-  read = record { lines = enumerate_from 1 retried; read = record { no_trouble = refl; read = retried_read }; judged = refl };
+  judged = retried_stream;
+  read = record { lines = enumerate_from 1 retried_stream; read = record { no_trouble = refl; read = retried_read }; judged = refl };
   good = retried_are_good;
   exact = refl;
   said = refl;
@@ -47,8 +47,8 @@ retried_run = record {
 
 interleaved_run : IsGoodRun strict (bytes_of interleaved_lines) (counts 2 2 2 2) true
 interleaved_run = record {
-  judged = interleaved;
-  read = record { lines = enumerate_from 1 interleaved; read = record { no_trouble = refl; read = interleaved_read }; judged = refl };
+  judged = interleaved_stream;
+  read = record { lines = enumerate_from 1 interleaved_stream; read = record { no_trouble = refl; read = interleaved_read }; judged = refl };
   good = interleaved_are_good;
   exact = refl;
   said = refl;

@@ -11,17 +11,17 @@ use Rattle.gk_pickle.specs.Pickles.{pickles}
 use Rattle.cm_stream.specs.Skeleton.{same_skeleton}
 use Rattle.cm_stream.specs.OnePass.{reads}
 use Rattle.cm_stream.proofs.FaultlessGood.{faultless_are_good}
-use Rattle.cm_good_streams.specs.Streams.{retried, interleaved, refused_beside_accepted}
+use Rattle.cm_good_streams.specs.Streams.{retried_stream, interleaved_stream, refused_beside_accepted}
 use Rattle.cm_good_streams.specs.Laws.{strict, RetriedAreGood, InterleavedAreGood, RefusedAreGood}
 use Rattle.cm_good_streams.proofs.Faultless.{none_at}
 
 pub retried_are_good : RetriedAreGood
 unfolding reads lines_read lines_of numbered_lines without_mark chars after text_after_indent first_some trimmed_text begins_by fence_of indent_of is_blank_line language_of step_of title_of token_of pickles same_skeleton encode
-retried_are_good = faultless_are_good strict retried (record { lines = none_at _ retried refl; end = refl })
+retried_are_good = faultless_are_good strict retried_stream (record { lines = none_at _ retried_stream refl; end = refl })
 
 pub interleaved_are_good : InterleavedAreGood
 unfolding reads lines_read lines_of numbered_lines without_mark chars after text_after_indent first_some trimmed_text begins_by fence_of indent_of is_blank_line language_of step_of title_of token_of pickles same_skeleton encode
-interleaved_are_good = faultless_are_good strict interleaved (record { lines = none_at _ interleaved refl; end = refl })
+interleaved_are_good = faultless_are_good strict interleaved_stream (record { lines = none_at _ interleaved_stream refl; end = refl })
 
 pub refused_are_good : RefusedAreGood
 unfolding reads lines_read lines_of numbered_lines without_mark chars after text_after_indent first_some trimmed_text begins_by fence_of indent_of is_blank_line language_of step_of title_of token_of pickles same_skeleton encode

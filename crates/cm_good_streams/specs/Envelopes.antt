@@ -112,8 +112,8 @@ parse_error uri = envelope.ParseError (record { source = record { uri = uri } })
 -- ---- attempts
 
 -- an attempt at the test case of this source
-abbrev pub started : (uri id : Utf8) → (attempt : ℕ) → Envelope
-started uri id attempt = envelope.TestCaseStarted (record {
+abbrev pub attempt_start : (uri id : Utf8) → (attempt : ℕ) → Envelope
+attempt_start uri id attempt = envelope.TestCaseStarted (record {
   id = id;
   test_case_id = uri ++ codes "c";
   attempt = attempt;
@@ -132,8 +132,8 @@ step_finished uri id status = envelope.TestStepFinished (record {
   test_step_result = record { status = status };
 })
 
-abbrev pub finished : (id : Utf8) → (is_retried : Bool) → Envelope
-finished id is_retried = envelope.TestCaseFinished (record {
+abbrev pub attempt_end : (id : Utf8) → (is_retried : Bool) → Envelope
+attempt_end id is_retried = envelope.TestCaseFinished (record {
   test_case_started_id = id;
   will_be_retried = is_retried;
 })

@@ -9,7 +9,7 @@ use Rattle.cm_stream.specs.declared.laws.ReleaseCounts.{ReleaseCounts}
 use Rattle.cm_envelope.specs.declared.envelope.Envelope.{Envelope}
 use Rattle.cm_stream.specs.Stream.{IsGoodStream}
 use Rattle.cm_stream.specs.declared.laws.Counts.{Counts}
-use Rattle.cm_good_streams.specs.Streams.{retried, interleaved, refused_beside_accepted}
+use Rattle.cm_good_streams.specs.Streams.{retried_stream, interleaved_stream, refused_beside_accepted}
 use Rattle.cm_good_streams.specs.Lines.{bytes_of, retried_lines, interleaved_lines, refused_lines}
 
 -- the settings without an option: PENDING is no good status, attempts are numbered from 0, and nothing is declared again
@@ -19,10 +19,10 @@ strict = settings_of Strict
 -- ---- as lists of envelopes
 
 abbrev pub RetriedAreGood : Type 0
-RetriedAreGood = Good strict retried
+RetriedAreGood = Good strict retried_stream
 
 abbrev pub InterleavedAreGood : Type 0
-InterleavedAreGood = Good strict interleaved
+InterleavedAreGood = Good strict interleaved_stream
 
 abbrev pub RefusedAreGood : Type 0
 RefusedAreGood = Good strict refused_beside_accepted
@@ -56,12 +56,12 @@ found_in = release_counts_of each_runs Strict
 
 abbrev pub RetriedBytesAreReleased : Type 0
 RetriedBytesAreReleased =
-    IsReleasedStream strict each_runs (bytes_of retried_lines) (counts 1 1 1 2) (found_in retried)
+    IsReleasedStream strict each_runs (bytes_of retried_lines) (counts 1 1 1 2) (found_in retried_stream)
 
 abbrev pub InterleavedBytesAreReleased : Type 0
 InterleavedBytesAreReleased =
     IsReleasedStream strict each_runs (bytes_of interleaved_lines) (counts 2 2 2 2)
-    (found_in interleaved)
+    (found_in interleaved_stream)
 
 -- the one that doesn't say success isn't, whatever is allowed
 abbrev pub RefusedBytesAreHeld : Type 0

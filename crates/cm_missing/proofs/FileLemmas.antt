@@ -12,7 +12,7 @@ use Rattle.gk_pickle.specs.Scenarios.{scenarios_of}
 use Rattle.gk_pickle.proofs.InTurn.{scenario_by_scenario}
 use Rattle.cm_missing.specs.Missing.{Accepted, AskedFile, FileReading, IsFileReading, IsMissingOf, ReadFile, asked_pickles, file_lines, file_scenarios, file_unrun, lines_of, scenarios_in, unrun_in}
 use Rattle.cm_missing.specs.PickleLines.{lines_of_one}
-use Rattle.cm_missing.specs.Told.{Keeps, KeepsMore, Told, and_then, file_told, pickles_told}
+use Rattle.cm_missing.specs.Told.{Keeps, KeepsMore, CountedLines, and_then, file_told, pickles_told}
 use Rattle.cm_missing.specs.declared.missing.Missing.{Missing}
 use Rattle.cm_missing.proofs.LineLemmas.{lines_for_each}
 use Rattle.cm_missing.proofs.PickleLemmas.{length-asked}
@@ -37,7 +37,7 @@ module _ (asked : Conditions) (files : List AskedFile) (f : AskedFile) (reading 
   pub one_file : IsMissingOf asked files old → IsMissingOf asked (files ++ f ∷ []) new
   one_file m =
       let r : ReadFile = record { file = f; reading = reading } in
-      let t : Told = record { lines = lines_of asked m.reads; scenarios = scenarios_in m.reads; unrun = unrun_in asked m.reads } in
+      let t : CountedLines = record { lines = lines_of asked m.reads; scenarios = scenarios_in m.reads; unrun = unrun_in asked m.reads } in
       let k : Keeps new (and_then t (file_told asked f reading)) = more t (record { text = m.text; count = m.count; scenarios = m.scenarios; unrun = m.unrun }) in
       let lines : lines_of asked m.reads ++ file_lines asked f reading ≡ lines_of asked (m.reads ++ r ∷ []) =
       ap (λ (ls : List (List ℕ)). lines_of asked m.reads ++ ls) (sym (append-nil (file_lines asked f reading)))

@@ -11,7 +11,7 @@ use Rattle.gk_document.specs.declared.tree.Tag.{Tag}
 use Rattle.gk_document.specs.ExampleRows.{table_rows_of}
 use Rattle.gk_pickle.specs.Counts.{body_rows}
 use Rattle.gk_pickle.specs.InFeature.{ScenarioInFeature}
-use Rattle.gk_pickle.specs.Inherited.{Inherited}
+use Rattle.gk_pickle.specs.Inheritance.{Inheritance}
 use Rattle.gk_pickle.specs.Pickles.{examples_pickles, outline_pickles, pickle_of, row_filling, table_pickles}
 use Rattle.gk_pickle.specs.Scenarios.{inherited_in, pickles_of_one}
 use Rattle.cm_reasons.specs.Lines.{text_of_lines}
@@ -19,14 +19,14 @@ use Rattle.cm_missing.specs.PickleLines.{OneLineForEachPickle, lines_of_one, out
 
 -- ---- as many lines as pickles
 
-rows_of_table : (inherited : Inherited) (s : Scenario) (tags : List Tag) (table : Option ExampleTable)
+rows_of_table : (inherited : Inheritance) (s : Scenario) (tags : List Tag) (table : Option ExampleTable)
     → length (row_lines (table_rows_of table)) ≡ length (table_pickles inherited s tags table)
 rows_of_table inherited s tags None = refl
 rows_of_table inherited s tags (Some table) =
     length-map table.body (λ (row : Row). row.location.line)
     ∙ sym (length-map table.body (λ (row : Row). pickle_of inherited s tags (row_filling table.header row)))
 
-rows_of_blocks : (inherited : Inherited) (s : Scenario) (blocks : List Examples)
+rows_of_blocks : (inherited : Inheritance) (s : Scenario) (blocks : List Examples)
     → length (flat_map (λ block. row_lines (body_rows block)) blocks) ≡ length (flat_map (examples_pickles inherited s) blocks)
 rows_of_blocks inherited s [] = refl
 rows_of_blocks inherited s (e ∷ es) =
@@ -36,7 +36,7 @@ rows_of_blocks inherited s (e ∷ es) =
     ∙ (λ j. first j + later j)
     ∙ sym (length-append (examples_pickles inherited s e) (flat_map (examples_pickles inherited s) es))
 
-rows_of_outline : (inherited : Inherited) (s : Scenario) (blocks : List Examples)
+rows_of_outline : (inherited : Inheritance) (s : Scenario) (blocks : List Examples)
     → length (outline_lines s blocks) ≡ length (outline_pickles inherited s blocks)
 rows_of_outline inherited s [] = refl
 rows_of_outline inherited s (e ∷ es) = rows_of_blocks inherited s (e ∷ es)

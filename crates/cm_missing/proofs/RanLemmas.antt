@@ -9,7 +9,7 @@ use Rattle.gk_pickle.specs.Pickles.{pickles as compiled}
 use Rattle.gk_pickle.specs.Scenarios.{scenarios_of}
 use Rattle.cm_missing.specs.PickleLines.{lines_of_one}
 use Rattle.cm_missing.specs.Missing.{Accepted, AllScenariosRan, AskedFile, AskedPickle, IsFileReading, IsMissingOf, asked_from, asked_pickles, flag_at, is_left_out, is_missing, missing_line}
-use Rattle.cm_missing.specs.Told.{Keeps, KeepsMore, Told, and_then, file_told}
+use Rattle.cm_missing.specs.Told.{Keeps, KeepsMore, CountedLines, and_then, file_told}
 use Rattle.cm_missing.specs.declared.missing.Missing.{Missing}
 use Rattle.cm_missing.proofs.FileLemmas.{one_file}
 
@@ -28,7 +28,7 @@ module _ (asked : Conditions) (flags : List Bool) where
   none_left_out place (due ∷ dues) (line ∷ lines) all = rw (all place (omega arith), none_left_out (suc place) dues lines (λ i l. all i (omega (arith, l)))) refl
 
 -- so many pickles are told, and no line
-abbrev pub counted : ℕ → Told
+abbrev pub counted : ℕ → CountedLines
 counted count = record { lines = []; scenarios = count; unrun = 0 }
 
 whole_told : (asked : Conditions) (f : AskedFile) (count : ℕ) (a : AllScenariosRan f count) → file_told asked f (Accepted a.document) ≡ counted count

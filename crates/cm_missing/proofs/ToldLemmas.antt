@@ -13,19 +13,19 @@ use Rattle.gk_pickle.specs.InFeature.{ScenarioInFeature}
 use Rattle.gk_pickle.specs.Scenarios.{pickles_of_one}
 use Rattle.cm_missing.specs.PickleLines.{lines_of_one}
 use Rattle.cm_missing.specs.Missing.{AskedPickle, asked_from, flag_at, is_left_out, is_missing, missing_line}
-use Rattle.cm_missing.specs.Told.{Keeps, KeepsMore, Told, and_then, line_told, pickles_told}
+use Rattle.cm_missing.specs.Told.{Keeps, KeepsMore, CountedLines, and_then, line_told, pickles_told}
 use Rattle.cm_missing.specs.declared.missing.Missing.{Missing}
 use Rattle.cm_missing.proofs.LineLemmas.{none_shown, one_shown}
 use Rattle.cm_missing.proofs.PickleLemmas.{one_asked, scenario_asked}
 
-and_then_assoc : (a b c : Told) → and_then (and_then a b) c ≡ and_then a (and_then b c)
+and_then_assoc : (a b c : CountedLines) → and_then (and_then a b) c ≡ and_then a (and_then b c)
 and_then_assoc a b c = λ j. record {
   lines = append_assoc a.lines b.lines c.lines j;
   scenarios = add_assoc a.scenarios b.scenarios c.scenarios j;
   unrun = add_assoc a.unrun b.unrun c.unrun j;
 }
 
-pub keeps_both : (a b c : Missing) (x y z : Told) → KeepsMore a b x → KeepsMore b c y → and_then x y ≡ z → KeepsMore a c z
+pub keeps_both : (a b c : Missing) (x y z : CountedLines) → KeepsMore a b x → KeepsMore b c y → and_then x y ≡ z → KeepsMore a c z
 keeps_both a b c x y z f g e t k = subst (Keeps c) (and_then_assoc t x y ∙ ap (and_then t) e) (g (and_then t x) (f t k))
 
 pub keeps_none : (a b : Missing) (asked : Conditions) (path : Utf8) → b ≡ a → KeepsMore a b (pickles_told asked path [])
@@ -68,14 +68,14 @@ keeps_line old new line a t k = record {
     text (inr (many, e)) = none_shown t.lines line (string_bytes old.text) (string_bytes new.text) (omega (arith, many, k.count)) k.text e
 
 module _ (asked : Conditions) (path : Utf8) (p : AskedPickle) (old new : Missing) where
-  abbrev one : Told
+  abbrev one : CountedLines
   one = pickles_told asked path (p ∷ [])
 
   -- it is missing
   pub keeps_missing : (mid : Missing) (line : List ℕ) → p.has_run ≡ false → may_be_left_out asked p.due ≡ false → mid.text ≡ old.text → mid.count ≡ old.count → mid.scenarios ≡ old.scenarios + 1 → mid.unrun ≡ old.unrun
       → line ≡ missing_line path p → KeepsMore mid new (line_told line) → KeepsMore old new one
   keeps_missing mid line run left text count scenarios unrun is more t k =
-      let s : Told = record { lines = t.lines; scenarios = t.scenarios + 1; unrun = t.unrun } in
+      let s : CountedLines = record { lines = t.lines; scenarios = t.scenarios + 1; unrun = t.unrun } in
       let kept : Keeps mid s = record {
         text = ap string_bytes text ∙ k.text;
         count = count ∙ k.count;

@@ -11,29 +11,29 @@ use Rattle.cm_missing.specs.Missing.{Accepted, AskedFile, AskedPickle, FileReadi
 use Rattle.cm_missing.specs.declared.missing.Missing.{Missing}
 
 -- some lines, and what is counted
-pub record Told : Type 0 where
+pub record CountedLines : Type 0 where
   pub lines : List (List ℕ)
   pub scenarios : ℕ
   pub unrun : ℕ
 
-abbrev pub and_then : Told → Told → Told
+abbrev pub and_then : CountedLines → CountedLines → CountedLines
 and_then a b = record {
   lines = a.lines ++ b.lines;
   scenarios = a.scenarios + b.scenarios;
   unrun = a.unrun + b.unrun;
 }
 
-abbrev pub line_told : List ℕ → Told
+abbrev pub line_told : List ℕ → CountedLines
 line_told line = record { lines = line ∷ []; scenarios = 0; unrun = 0 }
 
-abbrev pub pickles_told : Conditions → (path : Utf8) → List AskedPickle → Told
+abbrev pub pickles_told : Conditions → (path : Utf8) → List AskedPickle → CountedLines
 pickles_told asked path ps = record {
   lines = map (missing_line path) (filter (is_missing asked) ps);
   scenarios = length ps;
   unrun = count_by (is_left_out asked) ps;
 }
 
-abbrev pub file_told : Conditions → AskedFile → FileReading → Told
+abbrev pub file_told : Conditions → AskedFile → FileReading → CountedLines
 file_told asked f reading = record {
   lines = file_lines asked f reading;
   scenarios = file_scenarios reading;
@@ -41,15 +41,15 @@ file_told asked f reading = record {
 }
 
 -- this is kept
-pub record Keeps (m : Missing) (t : Told) : Type 0 where
+pub record Keeps (m : Missing) (t : CountedLines) : Type 0 where
   pub text : string_bytes m.text ≡ text_of_lines (take most_lines t.lines)
   pub count : m.count ≡ length t.lines
   pub scenarios : m.scenarios ≡ t.scenarios
   pub unrun : m.unrun ≡ t.unrun
 
 -- this more is kept than before
-abbrev pub KeepsMore : (old new : Missing) → Told → Type 0
-KeepsMore old new more = (t : Told) → Keeps old t → Keeps new (and_then t more)
+abbrev pub KeepsMore : (old new : Missing) → CountedLines → Type 0
+KeepsMore old new more = (t : CountedLines) → Keeps old t → Keeps new (and_then t more)
 
 -- what the parser answers
 abbrev pub reading_of : Result Document ParseFault → FileReading

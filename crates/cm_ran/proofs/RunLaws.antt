@@ -8,7 +8,7 @@ use Rattle.cm_envelope.specs.declared.envelope.Source.{Source}
 use Rattle.cm_envelope.specs.declared.pickle.Pickle.{Pickle}
 use Rattle.cm_stream.specs.References.{pickles, pickles_of, sources}
 use Rattle.cm_stream.specs.Release.{is_named}
-use Rattle.cm_stream.specs.ReleasedRuns.{IsCompiled, Ran}
+use Rattle.cm_stream.specs.ReleasedRuns.{IsCompiled, PickleRan}
 use Rattle.cm_stream.proofs.Found.{bytes_are}
 use Rattle.cm_stream.proofs.Lists.{all_here, and_true}
 use Rattle.cm_stream.proofs.Refuted.{cut_at}
@@ -34,7 +34,7 @@ ran_at settings asked bytes counts found r text place h =
     let at = cut_at (λ (s : Source). bytes_eq text s.content && is_run_of es s.uri place) (sources es) h in
     let both = and_true (bytes_eq text at.here.content) (is_run_of es at.here.uri place) at.passes in
     let its = some_so (is_named es) (slice_get (pickles_of at.here.uri es) place) both.1 in
-    let Named : Pickle → Type 0 = λ p. is_named es p ≡ true → Ran settings.policy es p in
+    let Named : Pickle → Type 0 = λ p. is_named es p ≡ true → PickleRan settings.policy es p in
     let all : AllByRecursion Named (pickles_of at.here.uri es) =
     all_weaker (λ p. Named p × (bytes_eq at.here.uri p.uri ≡ true)) Named (λ p k. k.0) (pickles_of at.here.uri es)
     (kept_so Named (λ p. bytes_eq at.here.uri p.uri) (pickles es) (named_ran settings asked bytes counts found r)) in

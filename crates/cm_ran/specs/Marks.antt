@@ -49,7 +49,7 @@ HasWholeRows m = (text : Utf8) → IsWholeRow text (row_at m.rows text)
 
 -- The texts stay, and the scenarios are marked that were, and those that ran in the stream of these envelopes. Rows stay whole
 -- where the stream has the pickles that its sources compile to.
-pub record Marked (es : List Envelope) (old new : Marks) : Type 0 where
+pub record MarksWhatRan (es : List Envelope) (old new : Marks) : Type 0 where
   pub texts : marked_texts new ≡ marked_texts old
   pub flags : AlsoRan old new (is_run_at es)
   pub rows : EachSourceIsCompiled es → HasWholeRows old → HasWholeRows new

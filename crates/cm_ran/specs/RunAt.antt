@@ -10,7 +10,7 @@ use Rattle.cm_envelope.specs.declared.envelope.Source.{Source}
 use Rattle.cm_envelope.specs.declared.pickle.Pickle.{Pickle}
 use Rattle.cm_stream.specs.References.{pickles_of, sources}
 use Rattle.cm_stream.specs.Release.{Conditions, IsReleasedStream, is_named}
-use Rattle.cm_stream.specs.ReleasedRuns.{IsCompiled, Ran}
+use Rattle.cm_stream.specs.ReleasedRuns.{IsCompiled, PickleRan}
 use Rattle.cm_stream.specs.Texts.{Utf8}
 use Rattle.cm_stream.specs.declared.laws.ReleaseCounts.{ReleaseCounts}
 use Rattle.cm_stream.specs.declared.laws.Counts.{Counts}
@@ -33,7 +33,7 @@ pub record ScenarioRanAt (policy : Policy) (es : List Envelope) (text : Utf8)
   pub compiled : IsCompiled es source
   pub pickle : Pickle
   pub at_place : slice_get (pickles_of source.uri es) place ≡ Some pickle
-  pub ran : Ran policy es pickle
+  pub ran : PickleRan policy es pickle
 
 -- In a released stream, also where its run is a part, that is so where the scenario is run.
 abbrev pub RanAt : Type 0

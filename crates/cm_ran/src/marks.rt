@@ -5,7 +5,7 @@ ghost use Rattle.std.specs.Str.{bytes_eq};
 ghost use Rattle.cm_cases.specs.Listed.{both_texts};
 ghost use Rattle.cm_envelope.specs.declared.envelope.Envelope.{Envelope as SomeEnvelope};
 ghost use Rattle.cm_reasons.specs.Trail.{trail_of};
-ghost use Rattle.cm_ran.specs.Marks.{AlsoRan, CompilesTo, HasSameFlags, HasWholeRows, Marked, marked_texts, has_run, with_text};
+ghost use Rattle.cm_ran.specs.Marks.{AlsoRan, CompilesTo, HasSameFlags, HasWholeRows, MarksWhatRan, marked_texts, has_run, with_text};
 ghost use Rattle.cm_attempt.specs.Table.{has_text};
 ghost use Rattle.cm_ran.specs.Compiled.{HasCompiled};
 ghost use Rattle.cm_ran.specs.Rows.{flag_at, is_set_at, row_at, flags_in};
@@ -144,7 +144,7 @@ impl<'a> Marks<'a> {
     ) -> Result<(), AllocError>
         ensures texts { marked_texts self.new ≡ marked_texts self.old }
         ensures ok { OnOk result ((es : List SomeEnvelope) → trail.now ≡ trail_of es
-            → Marked es self.old self.new) }
+            → MarksWhatRan es self.old self.new) }
     {
         let pickles = trail.pickle_uris(alloc)?;
         let named = trail.named_pickles(alloc)?;

@@ -7,7 +7,7 @@ use Rattle.gk_document.specs.declared.tree.Argument.TheVariants.{Table, Text as 
 use Rattle.gk_grammar.specs.Token.{Utf8, TagText, Tags, Title, Step, Row, Fenced, Line, line, number}
 use Rattle.gk_grammar.specs.Tree as tree
 use Rattle.gk_grammar.specs.Tree.{Location, Tag, DocString, Argument, Background, ExampleTable, Examples, Scenario, Rule, Feature}
-use Rattle.gk_grammar.specs.Grammar.{Piece, Then, ◌⨾◌, Each, AtMostOne, OneLine, place_and_name, tag_at, IsTagLine, TagLines, Titled, IsRow, IsTable, IsDocString, IsArgument, IsStepLine, IsStep, IsBackground, IsExampleTable, IsExamples, IsScenario, IsRule, IsFeature, IsOpening, IsFeatureText}
+use Rattle.gk_grammar.specs.Grammar.{Piece, Then, ◌⨾◌, Each, AtMostOne, OneLine, place_and_name, tag_at, IsTagLine, TagLines, TitleAndDescription, IsRow, IsTable, IsDocString, IsArgument, IsStepLine, IsStep, IsBackground, IsExampleTable, IsExamples, IsScenario, IsRule, IsFeature, IsOpening, IsFeatureText}
 use Rattle.gk_grammar.specs.Documents.{lines_read, max_lines}
 use Rattle.gk_grammar.proofs.Places.{AreNumberedFrom}
 use Rattle.gk_grammar.proofs.Reading.{read_are_lines}
@@ -69,7 +69,7 @@ tag_lines_fit : (tags : List Tag) → Gives (TagLines tags) (TagsHaveLines tags)
 tag_lines_fit tags ls cs t h =
     subst TagsHaveLines (sym t.1) (all_lists t.0 (gives_each (λ ts. OneLine (IsTagLine ts)) TagsHaveLines (λ ts. gives_line (IsTagLine ts) (TagsHaveLines ts) (tag_line_fits ts)) t.0 ls cs t.2 h))
 
-title_fits : (b : Block) (p : Location) (k m d : Utf8) → Gives (Titled b p k m d) (HasLine p)
+title_fits : (b : Block) (p : Location) (k m d : Utf8) → Gives (TitleAndDescription b p k m d) (HasLine p)
 title_fits b p k m d [] cs t h = absurd t
 title_fits b p k m d (line x u i (Title c y z) ∷ ls) cs t h = subst HasLine (sym t.0.1) h.0
 title_fits b p k m d (line x u i _ ∷ ls) cs t h = absurd t.0
@@ -109,7 +109,7 @@ steps_fit s =
 background_fits : (o : Option Background) → Gives (AtMostOne IsBackground o) (BackgroundHasLines o)
 background_fits None ls cs t h = tt
 background_fits (Some b) ls cs t h =
-    gives_then (Titled block.Background b.location b.keyword b.name b.description) (Each IsStep b.steps) (HasLine b.location) (AllByRecursion StepHasLines b.steps)
+    gives_then (TitleAndDescription block.Background b.location b.keyword b.name b.description) (Each IsStep b.steps) (HasLine b.location) (AllByRecursion StepHasLines b.steps)
     (title_fits block.Background b.location b.keyword b.name b.description) (gives_each IsStep StepHasLines steps_fit b.steps) ls cs t h
 
 example_table_fits : (o : Option ExampleTable) → Gives (AtMostOne IsExampleTable o) (TableHasLines o)
@@ -117,9 +117,9 @@ example_table_fits None ls cs t h = tt
 example_table_fits (Some x) ls cs t h = table_fits (x.header ∷ x.body) ls cs t h
 
 -- a header, and what is below it
-header_fits : (b : Block) (p : Location) (tags : List Tag) (k m d : Utf8) (Q : Piece) (X : Type 0) → Gives Q X → Gives (TagLines tags ⨾ Titled b p k m d ⨾ Q) (TagsHaveLines tags × (HasLine p × X))
+header_fits : (b : Block) (p : Location) (tags : List Tag) (k m d : Utf8) (Q : Piece) (X : Type 0) → Gives Q X → Gives (TagLines tags ⨾ TitleAndDescription b p k m d ⨾ Q) (TagsHaveLines tags × (HasLine p × X))
 header_fits b p tags k m d Q X q =
-    gives_then (TagLines tags) (Titled b p k m d ⨾ Q) (TagsHaveLines tags) (HasLine p × X) (tag_lines_fit tags) (gives_then (Titled b p k m d) Q (HasLine p) X (title_fits b p k m d) q)
+    gives_then (TagLines tags) (TitleAndDescription b p k m d ⨾ Q) (TagsHaveLines tags) (HasLine p × X) (tag_lines_fit tags) (gives_then (TitleAndDescription b p k m d) Q (HasLine p) X (title_fits b p k m d) q)
 
 examples_fit : (e : Examples) → Gives (IsExamples e) (ExamplesHaveLines e)
 examples_fit e ls cs t h =

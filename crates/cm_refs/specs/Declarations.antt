@@ -7,11 +7,9 @@ use Rattle.std.specs.Prelude.{◌||◌, ℕ, Bool, false, true, not, List, [], �
 use Rattle.std.specs.List.{list_any}
 use Rattle.std.specs.Option.{option_map_or}
 use Rattle.std.specs.Str.{bytes_eq}
+pub use Rattle.gk_document.specs.Texts.{Utf8}
 use Rattle.cm_refs.specs.declared.fault.RefFault.{RefFault}
 use Rattle.cm_refs.specs.declared.fault.RefFault.TheVariants as fault
-
-abbrev pub Utf8 : Type 0
-Utf8 = List ℕ
 
 -- a pickle, with the ids of its steps
 pub record PickleRow : Type 0 where

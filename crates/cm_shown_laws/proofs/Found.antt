@@ -15,7 +15,7 @@ use Rattle.gk_document.specs.declared.tree.Feature.{Feature}
 use Rattle.gk_document.specs.declared.tree.Document.{Document}
 use Rattle.gk_grammar.specs.Grammar.{feature_nodes}
 use Rattle.gk_grammar.proofs.LawLemmas.{numbered_in_order_holds}
-use Rattle.gk_pickle.specs.Inherited.{Inherited}
+use Rattle.gk_pickle.specs.Inheritance.{Inheritance}
 use Rattle.gk_pickle.specs.Pickles.{examples_pickles, feature_pickles, in_feature, in_rule, outline_pickles, pickles as compiled, pickles_in, rule_pickles, scenario_pickles, table_pickles}
 use Rattle.cm_attempt.specs.Calls.{last_of}
 use Rattle.cm_attempt.specs.declared.status.Settings.{Settings}
@@ -95,7 +95,7 @@ each_part made spots one (x ∷ xs) =
 is_itself : (n : ℕ) → (n == n) ≡ true
 is_itself n = eq-eqb n n refl
 
-module _ (inherited : Inherited) (s : Scenario) where
+module _ (inherited : Inheritance) (s : Scenario) where
   rows_stand : (tags : List Tag) (header : Row) (before rows : List Row) → AllByRecursion (Stands (map row_spot (before ++ rows))) (table_pickles inherited s tags (Some (record { header = header; body = rows })))
   rows_stand tags header before [] = tt
   rows_stand tags header before (r ∷ rows) =

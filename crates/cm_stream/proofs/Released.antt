@@ -20,7 +20,7 @@ use Rattle.cm_stream.specs.Good.{Good, SuccessGood, AllWell, IsAccepted, MeetsSo
 use Rattle.cm_stream.specs.Stream.{IsGoodRun, GoodWith, NoFault, answer_for}
 use Rattle.cm_stream.specs.Release.{Conditions, NoneIs, hold_if, hold_of, release_counts_of, is_named, is_missed, may_stay_unrun, is_retried_pickle, has_skip, is_stepless, passes_unmatched}
 use Rattle.cm_stream.specs.Release.{IsReleasedStream, ReleasedIsNotHeld, ReleasedExactly, FirstFaultReleases, Releases}
-use Rattle.cm_stream.specs.ReleasedRuns.{IsCompiled, CaseRan, Ran, RanOrMayNot, HookRan, RunEnded, EachSourceIsCompiled, EachCaseRan, EachHookRan, ReleasedRan, EachRan, NamedRan}
+use Rattle.cm_stream.specs.ReleasedRuns.{IsCompiled, CaseRan, PickleRan, RanOrMayNot, HookRan, RunEnded, EachSourceIsCompiled, EachCaseRan, EachHookRan, ReleasedRan, EachRan, NamedRan}
 use Rattle.cm_stream.specs.declared.laws.Hold.{Hold}
 use Rattle.cm_stream.specs.declared.laws.ReleaseCounts.{ReleaseCounts}
 use Rattle.cm_stream.specs.declared.laws.Hold.TheVariants as hold
@@ -343,15 +343,15 @@ module _ (settings : Settings) (es : List Envelope) (good : Good settings es) (w
           let its = was_some (λ (p : Pickle). map (λ s. s.id) p.steps) (find_pickle c.pickle_id es) (pickle_step_ids c) (good.sound.cases front (envelope.TestCase c) back its_cut) in
           (its.0, case_ran front back c its.0 its_cut its.1)
 
-  ran : (p : Pickle) → find_pickle p.id es ≡ Some p → is_named es p ≡ true → Ran settings.policy es p
+  ran : (p : Pickle) → find_pickle p.id es ≡ Some p → is_named es p ≡ true → PickleRan settings.policy es p
   ran p there named =
       let at = found_at as_case (λ c. bytes_eq p.id c.pickle_id) es (sym (any_found as_case (λ c. bytes_eq p.id c.pickle_id) es) ∙ named) in
       let c = at.value in
       let cut : es ≡ at.front ++ envelope.TestCase c ∷ at.back = at.cut ∙ ap (λ x. at.front ++ x ∷ at.back) (case_is at.here c at.is) in
       (c, case_ran at.front at.back c p cut (ap (λ u. find_pickle u es) (sym (bytes_are p.id c.pickle_id at.passes)) ∙ there))
 
-  each_named_ran : AllByRecursion (λ p. is_named es p ≡ true → Ran settings.policy es p) (pickles es)
-  each_named_ran = each_found as_pickle (λ p. is_named es p ≡ true → Ran settings.policy es p) es
+  each_named_ran : AllByRecursion (λ p. is_named es p ≡ true → PickleRan settings.policy es p) (pickles es)
+  each_named_ran = each_found as_pickle (λ p. is_named es p ≡ true → PickleRan settings.policy es p) es
       (λ front here back p cut is. ran p (pickle_there front here back p (ap pickles cut ∙ found_cut as_pickle front here back p is)))
 
   each_ran : (asked : Conditions) → asked.is_part ≡ false → NoneIs (is_missed asked es) (pickles es) → AllByRecursion (RanOrMayNot asked settings.policy es) (pickles es)
@@ -416,8 +416,8 @@ may_not_stay asked p none no_tags may =
 
 pub each_ran_where_none_may_stay : EachRan
 each_ran_where_none_may_stay settings asked bytes counts found r whole none no_tags =
-    all_weaker (RanOrMayNot asked settings.policy r.judged) (Ran settings.policy r.judged) one (pickles r.judged) ((released_ran settings asked bytes counts found r).1 whole)
+    all_weaker (RanOrMayNot asked settings.policy r.judged) (PickleRan settings.policy r.judged) one (pickles r.judged) ((released_ran settings asked bytes counts found r).1 whole)
   where
-    one : (p : Pickle) → RanOrMayNot asked settings.policy r.judged p → Ran settings.policy r.judged p
+    one : (p : Pickle) → RanOrMayNot asked settings.policy r.judged p → PickleRan settings.policy r.judged p
     one p (inl h) = h
     one p (inr h) = absurd (may_not_stay asked p none no_tags h)

@@ -29,7 +29,7 @@ use Rattle.cm_envelope.specs.declared.pickle.PickleTag.{PickleTag}
 use Rattle.cm_stream.specs.Good.{Everywhere, ReferencesGood, has_unknown_result, is_unknown}
 use Rattle.cm_stream.specs.References.{Name, PickleNamed, HookNamed, PickleStep, Definition, Run, as_case, if_any, case_of, cases, starts, pickles, pickles_of, find_case, statuses, test_step_names, declares_it, times_declared, status_in, sources}
 use Rattle.cm_stream.specs.Release.{Conditions, IsReleasedStream, NoneIs, attempts_of, has_skip, is_attempt_of, is_retried_pickle, is_skipped, is_stepless, may_stay_unrun, passes_unmatched, strict_conditions, test_step_of}
-use Rattle.cm_stream.specs.ReleasedRuns.{CaseMeets, CaseRan, EachScenarioRan, IsCompiled, RanOrMayNot, ReleasedCasesMeet, ReleasedScenariosRan, ReleasedStepsMatched, PicklePassed, ScenarioPassed, ScenarioRan, StepMatched, StrictlyRan, StrictlyReleased, may_be_left_out, Ran, EachScenarioPassed}
+use Rattle.cm_stream.specs.ReleasedRuns.{CaseMeets, CaseRan, EachScenarioRan, IsCompiled, RanOrMayNot, ReleasedCasesMeet, ReleasedScenariosRan, ReleasedStepsMatched, PicklePassed, ScenarioPassed, ScenarioRan, StepMatched, StrictlyRan, StrictlyReleased, may_be_left_out, PickleRan, EachScenarioPassed}
 use Rattle.cm_stream.specs.Sources.{DuePickle, DueTag, english, ids_at, is_due, is_due_step, is_due_tag}
 use Rattle.cm_stream.specs.declared.laws.ReleaseCounts.{ReleaseCounts}
 use Rattle.cm_stream.specs.declared.laws.Counts.{Counts}
@@ -325,7 +325,7 @@ abbrev strict_settings : (first : ℕ) (again : Bool) → Settings
 strict_settings first again = record { policy = Strict; first_attempt = first; allows_redeclared = again }
 
 pickle_passed : (first : ℕ) (again : Bool) (asked : Conditions) (bytes : List ℕ) (counts : Counts) (found : ReleaseCounts) (r : IsReleasedStream (strict_settings first again) asked bytes counts found)
-    → asked.no_retries ≡ true → asked.no_skips ≡ true → asked.no_stepless ≡ true → (p : Pickle) → Ran Strict r.judged p → PicklePassed r.judged p
+    → asked.no_retries ≡ true → asked.no_skips ≡ true → asked.no_stepless ≡ true → (p : Pickle) → PickleRan Strict r.judged p → PicklePassed r.judged p
 pickle_passed first again asked bytes counts found r retries skips stepless p ran =
     let meet = found_meets (strict_settings first again) asked bytes counts found r ran.0 p ran.1 in
     let attempt = ran.1.attempt in
@@ -346,7 +346,7 @@ module _ (first : ℕ) (again : Bool) (bytes : List ℕ) (counts : Counts) (foun
   scenario_passed : (ids : List Utf8) (due : DuePickle) → ScenarioRan strict_conditions Strict strict_es ids due → ScenarioPassed strict_es ids due
   scenario_passed ids due s = go s.ran
     where
-      go : Ran Strict r.judged s.pickle ⊎ (may_be_left_out strict_conditions due ≡ true) → ScenarioPassed r.judged ids due
+      go : PickleRan Strict r.judged s.pickle ⊎ (may_be_left_out strict_conditions due ≡ true) → ScenarioPassed r.judged ids due
       go (inl ran) = record { pickle = s.pickle; is_its = s.is_its; passed = pickle_passed first again strict_conditions bytes counts found r refl refl refl s.pickle ran }
       go (inr may) = cc
 
@@ -369,6 +369,6 @@ pub strictly_ran : StrictlyRan
 strictly_ran settings asked bytes counts found r is = by_policy settings.policy is settings.first_attempt settings.allows_redeclared asked bytes counts found r
   where
     by_policy : (policy : Policy) → policy ≡ Strict → (first : ℕ) (again : Bool) (asked : Conditions) (bytes : List ℕ) (counts : Counts) (found : ReleaseCounts) (r : IsReleasedStream (record { policy = policy; first_attempt = first; allows_redeclared = again }) asked bytes counts found)
-        → asked.no_retries ≡ true → asked.no_skips ≡ true → asked.no_stepless ≡ true → (p : Pickle) → Ran policy r.judged p → PicklePassed r.judged p
+        → asked.no_retries ≡ true → asked.no_skips ≡ true → asked.no_stepless ≡ true → (p : Pickle) → PickleRan policy r.judged p → PicklePassed r.judged p
     by_policy Strict e first again asked bytes counts found r = pickle_passed first again asked bytes counts found r
     by_policy PendingPasses e first again asked bytes counts found r = cc

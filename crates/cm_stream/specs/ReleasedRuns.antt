@@ -60,8 +60,8 @@ pub record CaseRan (policy : Policy) (es : List Envelope) (c : TestCase)
   pub good_status : is_good_status policy (worst_of (statuses attempt.id es)) ≡ true
 
 -- the pickle ran: a test case of it did
-abbrev pub Ran : Policy → List Envelope → Pickle → Type 0
-Ran policy es p = (c : TestCase) × CaseRan policy es c p
+abbrev pub PickleRan : Policy → List Envelope → Pickle → Type 0
+PickleRan policy es p = (c : TestCase) × CaseRan policy es c p
 
 -- The run hook finished once, with a good status.
 pub record HookRan (policy : Policy) (es : List Envelope) (h : TestRunHookStarted) : Type 0 where
@@ -80,7 +80,7 @@ abbrev pub EachSourceIsCompiled : List Envelope → Type 0
 EachSourceIsCompiled es = AllByRecursion (IsCompiled es) (sources es)
 
 abbrev pub EachPickleRan : Policy → List Envelope → Type 0
-EachPickleRan policy es = AllByRecursion (Ran policy es) (pickles es)
+EachPickleRan policy es = AllByRecursion (PickleRan policy es) (pickles es)
 
 abbrev pub EachCaseRan : Policy → List Envelope → Type 0
 EachCaseRan policy es = AllByRecursion (λ c. (p : Pickle) × CaseRan policy es c p) (cases es)
@@ -100,7 +100,7 @@ pub record AllRan (policy : Policy) (es : List Envelope) : Type 0 where
 
 -- the pickle ran, or may be without a test case
 abbrev pub RanOrMayNot : Conditions → Policy → List Envelope → Pickle → Type 0
-RanOrMayNot asked policy es p = Ran policy es p ⊎ (may_stay_unrun asked p ≡ true)
+RanOrMayNot asked policy es p = PickleRan policy es p ⊎ (may_stay_unrun asked p ≡ true)
 
 -- In a released stream each source is compiled, each test case and each run hook ran, and the run ended well; and unless the
 -- run is a part, each pickle ran or may be without a test case.
@@ -117,7 +117,7 @@ abbrev pub NamedRan : Type 0
 NamedRan =
     (settings : Settings) (asked : Conditions) (bytes : List ℕ) (counts : Counts)
     (found : ReleaseCounts) (r : IsReleasedStream settings asked bytes counts found)
-    → AllByRecursion (λ p. is_named r.judged p ≡ true → Ran settings.policy r.judged p)
+    → AllByRecursion (λ p. is_named r.judged p ≡ true → PickleRan settings.policy r.judged p)
     (pickles r.judged)
 
 -- where no pickle may be without a test case, each ran
@@ -141,7 +141,7 @@ pub record ScenarioRan (asked : Conditions) (policy : Policy) (es : List Envelop
     (due : DuePickle) : Type 0 where
   pub pickle : Pickle
   pub is_its : is_due ids pickle due ≡ true
-  pub ran : Ran policy es pickle ⊎ (may_be_left_out asked due ≡ true)
+  pub ran : PickleRan policy es pickle ⊎ (may_be_left_out asked due ≡ true)
 
 -- so has each scenario that a source's text compiles to
 abbrev pub EachScenarioRan : Conditions → Policy → List Envelope → Source → Type 0
@@ -235,4 +235,4 @@ StrictlyRan =
     (found : ReleaseCounts) (r : IsReleasedStream settings asked bytes counts found)
     → settings.policy ≡ Strict → asked.no_retries ≡ true → asked.no_skips ≡ true
     → asked.no_stepless ≡ true
-    → (p : Pickle) → Ran settings.policy r.judged p → PicklePassed r.judged p
+    → (p : Pickle) → PickleRan settings.policy r.judged p → PicklePassed r.judged p

@@ -3,7 +3,7 @@
 use Rattle.std.specs.Prelude.{◌≡◌, ℕ, ◌+◌, Bool, not, List, [], ◌∷◌, ◌++◌, Option, Some, None, Result, Ok, Err, if◌then◌else◌, map, length, count_by}
 use Rattle.std.specs.List.{list_any}
 use Rattle.std.specs.Str.{bytes_eq}
-use Rattle.cm_envelope.specs.Lines.{Fed, feed, is_blank, max_line_bytes, max_stream_bytes}
+use Rattle.cm_envelope.specs.Lines.{FeedAnswers, feed, is_blank, max_line_bytes, max_stream_bytes}
 use Rattle.cm_envelope.specs.declared.feed.Trouble.{Trouble}
 use Rattle.cm_envelope.specs.Reading.{LineFault, envelope_of_line}
 use Rattle.cm_attempt.specs.declared.status.Settings.{Settings}
@@ -21,7 +21,7 @@ use Rattle.cm_stream.specs.declared.laws.Verdict.{Verdict}
 use Rattle.cm_stream.specs.declared.laws.Verdict.TheVariants as verdict
 
 -- a stream's lines within the limits
-abbrev pub feed_of : List ℕ → Fed
+abbrev pub feed_of : List ℕ → FeedAnswers
 feed_of bytes = feed bytes max_line_bytes max_stream_bytes
 
 -- the lines that aren't blank, each with its number

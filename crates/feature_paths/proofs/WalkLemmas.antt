@@ -7,7 +7,7 @@ use Rattle.std.specs.List.Sorted.{IsPermutation, IsSorted}
 use Rattle.std.specs.Option.{option_or}
 use Rattle.std.specs.Ordering.{nat_cmp}
 use Rattle.std.specs.Result.{IfErr, IsErrAnd}
-use Rattle.files.specs.Looks.{Looked}
+use Rattle.files.specs.Looks.{PathLook}
 use Rattle.files.specs.declared.files.Look.{Look}
 use Rattle.feature_paths.specs.Shown.{Faulty, faulty, faults_shown, files_of, files_shown, first_fault, folders_shown}
 use Rattle.feature_paths.specs.FeaturePaths.{FindsFault, IsWalk, IsWhole, TellsFault, TellsTrouble, Walk, WalksAll, WalksFault, WalksFiles, without_files}
@@ -19,7 +19,7 @@ use Rattle.feature_paths.specs.declared.paths.PathTrouble.TheVariants as trouble
 -- ---- one path
 
 -- at its beginning a walk has only the path itself to look at
-pub sees_none : (path : List ℕ) (old : List Looked) → Sees path old old [] [] (path ∷ [])
+pub sees_none : (path : List ℕ) (old : List PathLook) → Sees path old old [] [] (path ∷ [])
 sees_none path old = record {
   looks = [];
   noted = sym (append-nil old);
@@ -29,7 +29,7 @@ sees_none path old = record {
 }
 
 -- a look at the first of the folders
-pub sees_more : (path : List ℕ) (old middle new : List Looked) (files files' : List (List ℕ)) (faults faults' : List Faulty)
+pub sees_more : (path : List ℕ) (old middle new : List PathLook) (files files' : List (List ℕ)) (faults faults' : List Faulty)
     (due folders folders' : List (List ℕ)) (folder : List ℕ) (look : Look)
     → Sees path old middle files faults due
     → due ≡ folder ∷ folders
@@ -39,32 +39,32 @@ pub sees_more : (path : List ℕ) (old middle new : List Looked) (files files' :
     → folders' ≡ folders ++ folders_shown folder look
     → Sees path old new files' faults' folders'
 sees_more path old middle new files files' faults faults' due folders folders' folder look s first noted more more_faults more_folders =
-    let l : Looked = record { path = folder; look = look } in
+    let l : PathLook = record { path = folder; look = look } in
     let shown = folders_shown folder look in
-    let paths = map (λ (l : Looked). l.path) s.looks in
+    let paths = map (λ (l : PathLook). l.path) s.looks in
     record {
       looks = s.looks ++ l ∷ [];
       noted = noted ∙ ap (λ ls. ls ++ l ∷ []) s.noted ∙ append_assoc old s.looks (l ∷ []);
       due =
-          ap (λ ps. map (λ (l : Looked). l.path) (s.looks ++ l ∷ []) ++ ps) more_folders
-          ∙ ap (λ ps. ps ++ (folders ++ shown)) (map-append (λ (l : Looked). l.path) s.looks (l ∷ []))
+          ap (λ ps. map (λ (l : PathLook). l.path) (s.looks ++ l ∷ []) ++ ps) more_folders
+          ∙ ap (λ ps. ps ++ (folders ++ shown)) (map-append (λ (l : PathLook). l.path) s.looks (l ∷ []))
           ∙ sym (append_assoc (paths ++ folder ∷ []) folders shown)
           ∙ ap (λ ps. ps ++ shown) (append_assoc paths (folder ∷ []) folders)
           ∙ ap (λ ps. (paths ++ ps) ++ shown) (sym first)
           ∙ ap (λ ps. ps ++ shown) s.due
-          ∙ ap (λ ps. path ∷ ps) (flat_map_more (λ (l : Looked). folders_shown l.path l.look) [] s.looks l);
+          ∙ ap (λ ps. path ∷ ps) (flat_map_more (λ (l : PathLook). folders_shown l.path l.look) [] s.looks l);
       of_files = more ∙ ap (λ ps. ps ++ files_shown folder look) s.of_files
-          ∙ flat_map_more (λ (l : Looked). files_shown l.path l.look) [] s.looks l;
+          ∙ flat_map_more (λ (l : PathLook). files_shown l.path l.look) [] s.looks l;
       of_faults = more_faults ∙ ap (λ ps. ps ++ faults_shown folder look) s.of_faults
-          ∙ flat_map_more (λ (l : Looked). faults_shown l.path l.look) [] s.looks l;
+          ∙ flat_map_more (λ (l : PathLook). faults_shown l.path l.look) [] s.looks l;
     }
 
-whole : (path : List ℕ) (old new : List Looked) (files : List (List ℕ)) (faults : List Faulty)
+whole : (path : List ℕ) (old new : List PathLook) (files : List (List ℕ)) (faults : List Faulty)
     → (s : Sees path old new files faults []) → IsWhole path s.looks
 whole path old new files faults s = sym (append-nil _) ∙ s.due
 
 -- at its end a walk gives its first fault
-pub walked_fault : (path : List ℕ) (old new : List Looked) (files : List (List ℕ)) (faults : List Faulty)
+pub walked_fault : (path : List ℕ) (old new : List PathLook) (files : List (List ℕ)) (faults : List Faulty)
     (fault : Faulty) → Sees path old new files faults [] → first_fault faults ≡ Some fault
     → WalksFault path old new fault
 walked_fault path old new files faults fault s first = (
@@ -77,7 +77,7 @@ walked_fault path old new files faults fault s first = (
 )
 
 -- or that there is no file
-pub walked_empty : (path : List ℕ) (old new : List Looked) (files : List (List ℕ)) (faults : List Faulty)
+pub walked_empty : (path : List ℕ) (old new : List PathLook) (files : List (List ℕ)) (faults : List Faulty)
     → Sees path old new files faults [] → first_fault faults ≡ None → files ≡ []
     → WalksFault path old new (record { path = path; fault = NoFeatures })
 walked_empty path old new files faults s none empty = (
@@ -95,7 +95,7 @@ has_files path [] some = absurd (omega arith)
 has_files path (file ∷ files) some = refl
 
 -- or the files in their order
-pub walked_files : (path : List ℕ) (old new : List Looked) (files sorted : List (List ℕ)) (faults : List Faulty)
+pub walked_files : (path : List ℕ) (old new : List PathLook) (files sorted : List (List ℕ)) (faults : List Faulty)
     → Sees path old new files faults [] → first_fault faults ≡ None → 0 < length files
     → IsPermutation files sorted → IsSorted (slice_cmp nat_cmp) sorted
     → WalksFiles path old new sorted
@@ -113,7 +113,7 @@ walked_files path old new files sorted faults s none some same in_order = (
 
 -- ---- one path after another
 
-pub walks_none : (old : List Looked) → WalksAll [] old old []
+pub walks_none : (old : List PathLook) → WalksAll [] old old []
 walks_none old = record {
   walks = [];
   each = λ k d below. absurd (omega arith);
@@ -122,7 +122,7 @@ walks_none old = record {
   joined = refl;
 }
 
-walks_more : (paths : List (List ℕ)) (path : List ℕ) (old middle new : List Looked) (files part : List (List ℕ))
+walks_more : (paths : List (List ℕ)) (path : List ℕ) (old middle new : List PathLook) (files part : List (List ℕ))
     → WalksAll paths old middle files → WalksFiles path middle new part
     → WalksAll (paths ++ path ∷ []) old new (files ++ part)
 walks_more paths path old middle new files part w one =
@@ -144,7 +144,7 @@ module _ {X : Type 0} (f : X → List ℕ) (xs : List X) (i : ℕ) (d : X) (belo
   paths_more = ap (map f) (take_more xs i d below) ∙ map-append f (take i xs) (get_or xs i d ∷ [])
 
   -- the next of the paths gives files, which have these texts
-  pub walked_on : {Y : Type 0} (t : Y → List ℕ) (old middle new : List Looked) (files part all : List Y)
+  pub walked_on : {Y : Type 0} (t : Y → List ℕ) (old middle new : List PathLook) (files part all : List Y)
       → WalksAll (map f (take i xs)) old middle (map t files) → WalksFiles path middle new (map t part)
       → all ≡ files ++ part → WalksAll (map f (take (i + 1) xs)) old new (map t all)
   walked_on t old middle new files part all w one joined =
@@ -158,7 +158,7 @@ module _ {X : Type 0} (f : X → List ℕ) (xs : List X) (i : ℕ) (d : X) (belo
       ∙ map-append f (take i xs) (get_or xs i d ∷ drop (i + 1) xs)
 
   -- something is wrong with the next of the paths
-  pub finds_fault : (old middle new : List Looked) (files : List (List ℕ)) (fault : Faulty)
+  pub finds_fault : (old middle new : List PathLook) (files : List (List ℕ)) (fault : Faulty)
       → WalksAll (map f (take i xs)) old middle files → WalksFault path middle new fault
       → FindsFault (map f xs) old new fault
   finds_fault old middle new files fault w wrong = record {
@@ -172,14 +172,14 @@ module _ {X : Type 0} (f : X → List ℕ) (xs : List X) (i : ℕ) (d : X) (belo
     wrong = wrong;
   }
 
-  tells : (old middle new : List Looked) (files : List (List ℕ)) (e : PathTrouble)
+  tells : (old middle new : List PathLook) (files : List (List ℕ)) (e : PathTrouble)
       → WalksAll (map f (take i xs)) old middle files → TellsFault path middle new e
       → TellsTrouble (map f xs) old new e
   tells old middle new files (trouble.Faulty fault) w told = finds_fault old middle new files (faulty fault) w told
   tells old middle new files trouble.Memory w told = tt
 
   -- what is told of it is told of all paths
-  pub told_on : {A : Type 0} (r : Result A PathTrouble) (old middle new : List Looked) (files : List (List ℕ)) (e : PathTrouble)
+  pub told_on : {A : Type 0} (r : Result A PathTrouble) (old middle new : List PathLook) (files : List (List ℕ)) (e : PathTrouble)
       → WalksAll (map f (take i xs)) old middle files → TellsFault path middle new e
       → IsErrAnd r (λ y. y ≡ e) → IfErr r (TellsTrouble (map f xs) old new)
   told_on (Ok a) old middle new files e w told same = absurd same

@@ -2,7 +2,7 @@
 use Rattle.std.specs.Prelude.{◌≡◌, ◌≢◌, ◌↔◌, ℕ, List, [], Some, None, false, All, Contains}
 use Rattle.std.specs.List.{IsDistinct}
 use Rattle.std.specs.Str.{bytes_eq}
-use Rattle.files.specs.Looks.{Looked}
+use Rattle.files.specs.Looks.{PathLook}
 use Rattle.feature_paths.specs.FeaturePaths.{each_once, fault_below}
 use Rattle.feature_paths.specs.Shown.{Faulty, faults_of, files_of, first_fault, is_before}
 
@@ -17,7 +17,7 @@ FirstFaultIsFirst =
 
 -- where nothing is told to be wrong, nothing is, and there is a file
 abbrev pub NoFaultIsPassedOver : Type 0
-NoFaultIsPassedOver = (path : List ℕ) (looks : List Looked) → fault_below path looks ≡ None
+NoFaultIsPassedOver = (path : List ℕ) (looks : List PathLook) → fault_below path looks ≡ None
     → (faults_of looks ≡ []) × (files_of looks ≢ [])
 
 -- They are the same texts, and no two of them are equal.

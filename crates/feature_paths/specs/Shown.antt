@@ -4,7 +4,7 @@ use Rattle.std.specs.Cmp.Lexicographic.{slice_cmp}
 use Rattle.std.specs.List.{ends_with, flat_map}
 use Rattle.std.specs.Ordering.{is_lt, nat_cmp}
 use Rattle.std.specs.Prelude.{nat_eq}
-use Rattle.files.specs.Looks.{Looked}
+use Rattle.files.specs.Looks.{PathLook}
 use Rattle.files.specs.declared.files.Entry.{Entry}
 use Rattle.files.specs.declared.files.EntryKind.{EntryKind}
 use Rattle.files.specs.declared.files.EntryKind.TheVariants as kind
@@ -93,13 +93,13 @@ faults_shown path look.NotUtf8 = record { path = path; fault = NotUtf8 } ∷ []
 faults_shown path look.Unreadable = record { path = path; fault = ReadFailed } ∷ []
 
 -- the same of all looks
-abbrev pub files_of : List Looked → List (List ℕ)
+abbrev pub files_of : List PathLook → List (List ℕ)
 files_of looks = flat_map (λ l. files_shown l.path l.look) looks
 
-abbrev pub folders_of : List Looked → List (List ℕ)
+abbrev pub folders_of : List PathLook → List (List ℕ)
 folders_of looks = flat_map (λ l. folders_shown l.path l.look) looks
 
-abbrev pub faults_of : List Looked → List Faulty
+abbrev pub faults_of : List PathLook → List Faulty
 faults_of looks = flat_map (λ l. faults_shown l.path l.look) looks
 
 -- ---- the first fault

@@ -1,6 +1,6 @@
 //! Files by their names, and what stands under a path.
 ghost use Rattle.std.specs.Prelude.{◌≡◌, List, IfOk, string_bytes, [], None};
-ghost use Rattle.files.specs.Looks.{Looked, NotesLook};
+ghost use Rattle.files.specs.Looks.{PathLook, NotesLook};
 ghost use Rattle.files.specs.Openings.{IsFresh, NotesClosing, NotesOpening, Opening, trouble_in};
 ghost use Rattle.cm_envelope.specs.Reads.{input_with};
 ghost use Rattle.files.specs.Kept.{looks_of, openings_of};
@@ -42,7 +42,7 @@ pub trait Files {
     ghost openings: { Self → List Opening };
 
     /// What was looked at so far.
-    ghost looks: { Self → List Looked };
+    ghost looks: { Self → List PathLook };
 
     /// Opens the file of this name, of which nothing was read yet.
     ///

@@ -12,7 +12,7 @@ use Rattle.gk_grammar.specs.Token.{Utf8, TagText, Blank, Comment, Language, Tags
 use Rattle.gk_grammar.specs.Tree as tree
 use Rattle.gk_grammar.specs.Tree.{Location, Tag, DocString, Argument}
 use Rattle.gk_document.specs.declared.tree.Argument.TheVariants.{Table, Text as Quoted}
-use Rattle.gk_grammar.specs.Grammar.{Piece, Then, ◌⨾◌, Nothing, Each, AtMostOne, OneLine, comments_of, at, TagLines, IsTagLine, place_and_name, tag_at, Titled, IsTitle, stops, IsStep, IsStepLine, IsArgument, IsTable, IsRow, HaveEqualCounts, IsDocString, Closes, is_fence, IsPlainGap, IsOpening, IsEnglish}
+use Rattle.gk_grammar.specs.Grammar.{Piece, Then, ◌⨾◌, Nothing, Each, AtMostOne, OneLine, comments_of, at, TagLines, IsTagLine, place_and_name, tag_at, TitleAndDescription, IsTitle, stops, IsStep, IsStepLine, IsArgument, IsTable, IsRow, HaveEqualCounts, IsDocString, Closes, is_fence, IsPlainGap, IsOpening, IsEnglish}
 use Rattle.gk_grammar.specs.Machine.{Body, Bare, Steps, Rows, FlatBlock, OpenDocString, Phase, Start, AfterLanguage, AfterTags, InDescription, AfterStep, InDocString, InExamplesTable, State, PlacedFault, after_step, step_row, step_fence, row_at, step_at, count_of, with_doc_string, doc_string, with_steps, with_rows, empty_body, at_phase, close_block, add_tags, open_block, new_block, tags_from, follows, in_examples_table, takes_tags}
 use Rattle.gk_grammar.proofs.Pieces.{moved, extended, mapped, joined, to_right, then_nothing, each_more, Takes, gap_takes, one_line_takes, then_takes, each_takes, all_more, only_first, then_empty, lengthened}
 
@@ -43,7 +43,7 @@ FlatBlockTags block.Background tags ls cs = (tags ≡ []) × Nothing ls cs
 FlatBlockTags _ tags ls cs = TagLines tags ls cs
 
 abbrev pub IsHead : FlatBlock → Piece
-IsHead c = FlatBlockTags c.block c.tags ⨾ Titled c.block c.place c.keyword c.name c.description
+IsHead c = FlatBlockTags c.block c.tags ⨾ TitleAndDescription c.block c.place c.keyword c.name c.description
 
 abbrev pub IsFlatBlock : FlatBlock → Piece
 IsFlatBlock c = IsHead c ⨾ IsBody c.block c.body

@@ -10,7 +10,7 @@ use Rattle.gk_document.specs.declared.tree.Argument.TheVariants.{Table, Text as 
 use Rattle.gk_grammar.specs.Token.{Utf8, TagText, Blank, Tags, Title, Step, Row, Line, line, number}
 use Rattle.gk_grammar.specs.Tree as tree
 use Rattle.gk_grammar.specs.Tree.{Location, Tag, Argument, Background, ExampleTable, Examples, Scenario, Rule, Feature}
-use Rattle.gk_grammar.specs.Grammar.{Piece, Then, ◌⨾◌, Nothing, Each, AtMostOne, OneLine, at, place_and_name, tag_at, IsTagLine, TagLines, Titled, IsRow, IsTable, IsDocString, IsArgument, IsStepLine, IsStep, IsBackground, IsExampleTable, IsExamples, IsScenario, IsRule, IsFeature, IsOpening, IsFeatureText, Node, tag_nodes, node_of_tag, row_nodes, argument_nodes, step_nodes, background_nodes, table_rows, examples_nodes, scenario_nodes, rule_nodes, feature_nodes}
+use Rattle.gk_grammar.specs.Grammar.{Piece, Then, ◌⨾◌, Nothing, Each, AtMostOne, OneLine, at, place_and_name, tag_at, IsTagLine, TagLines, TitleAndDescription, IsRow, IsTable, IsDocString, IsArgument, IsStepLine, IsStep, IsBackground, IsExampleTable, IsExamples, IsScenario, IsRule, IsFeature, IsOpening, IsFeatureText, Node, tag_nodes, node_of_tag, row_nodes, argument_nodes, step_nodes, background_nodes, table_rows, examples_nodes, scenario_nodes, rule_nodes, feature_nodes}
 use Rattle.gk_grammar.proofs.Numbers.{InOrder}
 use Rattle.gk_grammar.proofs.Order.{Rise, rise_both, all_both, all_weaker, StandAt, stand_both, stand_in_order, before_by_line}
 
@@ -70,7 +70,7 @@ tag_lines_nodes tags ls cs h =
     subst (λ (z : List Node). StandAt z (places ls)) (sym (ap tag_nodes h.1 ∙ tags_of_lines h.0))
     (nodes_each (λ ts. OneLine (IsTagLine ts)) tag_nodes (λ ts. nodes_line (IsTagLine ts) (tag_nodes ts) (tag_line_nodes ts)) h.0 ls cs h.2)
 
-title_nodes : (b : Block) (p : Location) (n : ℕ) (k m d : Utf8) → NodesOf (Titled b p k m d) ((p, n) ∷ [])
+title_nodes : (b : Block) (p : Location) (n : ℕ) (k m d : Utf8) → NodesOf (TitleAndDescription b p k m d) ((p, n) ∷ [])
 title_nodes b p n k m d [] cs h = absurd h
 title_nodes b p n k m d (line x t i (Title c y z) ∷ ls) cs h = inl (h.0.1, tt)
 title_nodes b p n k m d (line x t i Blank ∷ ls) cs h = absurd h.0
@@ -111,7 +111,7 @@ steps_stand s =
 background_stands : (o : Option Background) → NodesOf (AtMostOne IsBackground o) (background_nodes o)
 background_stands None = no_nodes Nothing
 background_stands (Some b) =
-    nodes_then (Titled block.Background b.location b.keyword b.name b.description) (Each IsStep b.steps) ((b.location, b.node) ∷ []) (flat_map step_nodes b.steps)
+    nodes_then (TitleAndDescription block.Background b.location b.keyword b.name b.description) (Each IsStep b.steps) ((b.location, b.node) ∷ []) (flat_map step_nodes b.steps)
     (title_nodes block.Background b.location b.node b.keyword b.name b.description) (nodes_each IsStep step_nodes steps_stand b.steps)
 
 example_table_stands : (o : Option ExampleTable) → NodesOf (AtMostOne IsExampleTable o) (row_nodes (table_rows o))
@@ -120,10 +120,10 @@ example_table_stands (Some t) = table_nodes (t.header ∷ t.body)
 
 -- a header, and what is below it
 header_stands : (b : Block) (p : Location) (n : ℕ) (tags : List Tag) (k m d : Utf8) (Q : Piece) (below : List Node) → NodesOf Q below →
-    NodesOf (TagLines tags ⨾ Titled b p k m d ⨾ Q) (tag_nodes tags ++ (p, n) ∷ below)
+    NodesOf (TagLines tags ⨾ TitleAndDescription b p k m d ⨾ Q) (tag_nodes tags ++ (p, n) ∷ below)
 header_stands b p n tags k m d Q below f =
-    nodes_then (TagLines tags) (Titled b p k m d ⨾ Q) (tag_nodes tags) ((p, n) ∷ below) (tag_lines_nodes tags)
-    (nodes_then (Titled b p k m d) Q ((p, n) ∷ []) below (title_nodes b p n k m d) f)
+    nodes_then (TagLines tags) (TitleAndDescription b p k m d ⨾ Q) (tag_nodes tags) ((p, n) ∷ below) (tag_lines_nodes tags)
+    (nodes_then (TitleAndDescription b p k m d) Q ((p, n) ∷ []) below (title_nodes b p n k m d) f)
 
 examples_stand : (e : Examples) → NodesOf (IsExamples e) (examples_nodes e)
 examples_stand e = header_stands block.Examples e.location e.node e.tags e.keyword e.name e.description (AtMostOne IsExampleTable e.table) (row_nodes (table_rows e.table)) (example_table_stands e.table)
@@ -142,10 +142,10 @@ rule_stands r =
 
 feature_stands : (f : Feature) → NodesOf (IsFeature f) (feature_nodes (Some f))
 feature_stands f =
-    nodes_then (TagLines f.tags) (Titled block.Feature f.location f.keyword f.name f.description ⨾ AtMostOne IsBackground f.background ⨾ Each IsScenario f.scenarios ⨾ Each IsRule f.rules)
+    nodes_then (TagLines f.tags) (TitleAndDescription block.Feature f.location f.keyword f.name f.description ⨾ AtMostOne IsBackground f.background ⨾ Each IsScenario f.scenarios ⨾ Each IsRule f.rules)
     (tag_nodes f.tags) (background_nodes f.background ++ (flat_map scenario_nodes f.scenarios ++ flat_map rule_nodes f.rules)) (tag_lines_nodes f.tags)
-    (nodes_then (Titled block.Feature f.location f.keyword f.name f.description) (AtMostOne IsBackground f.background ⨾ Each IsScenario f.scenarios ⨾ Each IsRule f.rules)
-    [] (background_nodes f.background ++ (flat_map scenario_nodes f.scenarios ++ flat_map rule_nodes f.rules)) (no_nodes (Titled block.Feature f.location f.keyword f.name f.description))
+    (nodes_then (TitleAndDescription block.Feature f.location f.keyword f.name f.description) (AtMostOne IsBackground f.background ⨾ Each IsScenario f.scenarios ⨾ Each IsRule f.rules)
+    [] (background_nodes f.background ++ (flat_map scenario_nodes f.scenarios ++ flat_map rule_nodes f.rules)) (no_nodes (TitleAndDescription block.Feature f.location f.keyword f.name f.description))
     (nodes_then (AtMostOne IsBackground f.background) (Each IsScenario f.scenarios ⨾ Each IsRule f.rules) (background_nodes f.background) (flat_map scenario_nodes f.scenarios ++ flat_map rule_nodes f.rules)
     (background_stands f.background)
     (nodes_then (Each IsScenario f.scenarios) (Each IsRule f.rules) (flat_map scenario_nodes f.scenarios) (flat_map rule_nodes f.rules)

@@ -8,7 +8,7 @@ use Rattle.gk_line.specs.declared.tokens.Block.TheVariants as block
 use Rattle.gk_grammar.specs.Token.{Utf8, Blank, Comment, Language, Tags, Title, Step, Row, Fenced, Other, Line, line, is_gap, is_language}
 use Rattle.gk_grammar.specs.Tree as tree
 use Rattle.gk_grammar.specs.Tree.{Tag}
-use Rattle.gk_grammar.specs.Grammar.{Then, Each, OneLine, comments_of, TagLines, Titled, stops, description_of, IsStep, IsTable, IsPlainGap, IsOpening, IsEnglish, english}
+use Rattle.gk_grammar.specs.Grammar.{Then, Each, OneLine, comments_of, TagLines, TitleAndDescription, stops, description_of, IsStep, IsTable, IsPlainGap, IsOpening, IsEnglish, english}
 use Rattle.gk_grammar.specs.Machine.{FlatBlock, Phase, Start, AfterLanguage, AfterTags, InDescription, AfterStep, InDocString, InExamplesTable, State, PlacedFault, next, at_phase, run, ◌>>=◌, initial_state, blocks_at_end, with_description, after_description, empty_body, step_at, row_at, same_text, before_first_block, at_start, after_language, after_tags, pass_over, follows, takes_tags}
 use Rattle.gk_grammar.proofs.Pieces.{extended, mapped, joined, then_empty, with_line, lengthened, gap_takes, one_line_takes, all_more, comments_of-append}
 use Rattle.gk_grammar.proofs.Open.{IsBody, has_steps, IsHead, IsFlatBlock, TitledYet, IsOpen, IsDone, Holds, StateHolds, step_line, one_row, cond_ok, FlatBlockTags, flat_block_tags, SomeTagLines, some_are, tags_take, no_tags, title_opens, tags_open, leaving_holds, stepping_holds, quoting_holds, listing_holds}
@@ -16,9 +16,9 @@ use Rattle.gk_grammar.proofs.Open.{IsBody, has_steps, IsHead, IsFlatBlock, Title
 -- ---- after a title line
 
 head_is : (c : FlatBlock) (lines : List Line) (ls : List Line) (cs : List tree.Comment) → Then (FlatBlockTags c.block c.tags) (TitledYet c lines) ls cs → IsHead (with_description c lines) ls cs
-head_is c lines ls cs t = mapped (FlatBlockTags c.block c.tags) (TitledYet c lines) (Titled c.block c.place c.keyword c.name (description_of lines)) (λ xs ys q. go xs ys q) ls cs t
+head_is c lines ls cs t = mapped (FlatBlockTags c.block c.tags) (TitledYet c lines) (TitleAndDescription c.block c.place c.keyword c.name (description_of lines)) (λ xs ys q. go xs ys q) ls cs t
   where
-    go : (xs : List Line) (ys : List tree.Comment) → TitledYet c lines xs ys → Titled c.block c.place c.keyword c.name (description_of lines) xs ys
+    go : (xs : List Line) (ys : List tree.Comment) → TitledYet c lines xs ys → TitleAndDescription c.block c.place c.keyword c.name (description_of lines) xs ys
     go [] ys q = absurd q
     go (x ∷ xs) ys q = (q.0, q.1, ap description_of q.2, q.3)
 

@@ -11,7 +11,7 @@ use Rattle.gk_document.specs.declared.tree.Argument.TheVariants.{Table, Text as 
 use Rattle.gk_grammar.specs.Token.{Utf8, Blank, Comment, Language, Tags, Title, Step, Row, Fenced, Other, Line, line, number, is_gap}
 use Rattle.gk_grammar.specs.Tree as tree
 use Rattle.gk_grammar.specs.Tree.{Argument}
-use Rattle.gk_grammar.specs.Grammar.{Piece, Then, Each, AtMostOne, OneLine, IsRow, IsTable, IsTitle, Titled, IsArgument, IsStepLine, IsStep, stops, is_fence, english}
+use Rattle.gk_grammar.specs.Grammar.{Piece, Then, Each, AtMostOne, OneLine, IsRow, IsTable, IsTitle, TitleAndDescription, IsArgument, IsStepLine, IsStep, stops, is_fence, english}
 use Rattle.gk_grammar.specs.Machine.{FlatBlock, Phase, Start, AfterLanguage, AfterTags, InDescription, AfterStep, InDocString, InExamplesTable, State, PlacedFault, next, at_phase, run, initial_state, step_row, count_of, same_text, after_description, with_description, pass_over}
 use Rattle.gk_grammar.specs.Place.{IsFaultAt, DiffersFromTable, HasOtherCount, is_row_or_gap}
 use Rattle.gk_grammar.specs.declared.fault.FaultKind.{FaultKind}
@@ -106,7 +106,7 @@ step_line : (s : tree.Step) (ls : List Line) (cs : List tree.Comment) → OneLin
 step_line s [] cs h = absurd h
 step_line s (l ∷ gap) cs h = record { earlier = []; last = l; gap = gap; cut = refl; no_row = step_no_row s l h.0; only_gap = h.1.0 }
 
-titled : (b : Block) (place : tree.Location) (k m d : Utf8) (ls : List Line) (cs : List tree.Comment) → b ≡ block.Examples → Titled b place k m d ls cs → LastNoRow ls
+titled : (b : Block) (place : tree.Location) (k m d : Utf8) (ls : List Line) (cs : List tree.Comment) → b ≡ block.Examples → TitleAndDescription b place k m d ls cs → LastNoRow ls
 titled b place k m d [] cs e h = absurd h
 titled b place k m d (l ∷ ls) cs e h = last_no_row l [] ls (title_no_row b place k m l h.0) tt (subst (λ (z : Block). AllByRecursion (λ x. IsFalse (stops z x)) ls) e h.1)
 

@@ -7,7 +7,7 @@ use Rattle.gk_line.specs.declared.tokens.Block.TheVariants as block
 use Rattle.gk_grammar.specs.Token.{Line}
 use Rattle.gk_grammar.specs.Tree as tree
 use Rattle.gk_grammar.specs.Tree.{Background, ExampleTable, Examples, Scenario, Rule, Feature}
-use Rattle.gk_grammar.specs.Grammar.{Piece, Then, Each, AtMostOne, TagLines, Titled, IsStep, IsExampleTable, table_rows, IsBackground, IsExamples, IsScenario, IsRule, IsFeature}
+use Rattle.gk_grammar.specs.Grammar.{Piece, Then, Each, AtMostOne, TagLines, TitleAndDescription, IsStep, IsExampleTable, table_rows, IsBackground, IsExamples, IsScenario, IsRule, IsFeature}
 use Rattle.gk_grammar.specs.Assembly.{example_table_of}
 use Rattle.gk_grammar.specs.Machine.{Bare, Steps, Rows, FlatBlock, follows}
 use Rattle.gk_grammar.proofs.Pieces.{mapped, to_right, to_left, then_nothing, nothing_then, only_first, each_both, each_apart}
@@ -117,13 +117,13 @@ rows_from (Some t) ls cs h = h
 
 examples_to : (e : Examples) (ls : List Line) (cs : List tree.Comment) → IsExamples e ls cs → IsFlatBlock (examples_flat_block e) ls cs
 examples_to e ls cs t =
-    mapped (Then (TagLines e.tags) (Titled block.Examples e.location e.keyword e.name e.description)) (AtMostOne IsExampleTable e.table) (IsRows (table_rows e.table)) (rows_to e.table) ls cs
-    (to_left (TagLines e.tags) (Titled block.Examples e.location e.keyword e.name e.description) (AtMostOne IsExampleTable e.table) ls cs t)
+    mapped (Then (TagLines e.tags) (TitleAndDescription block.Examples e.location e.keyword e.name e.description)) (AtMostOne IsExampleTable e.table) (IsRows (table_rows e.table)) (rows_to e.table) ls cs
+    (to_left (TagLines e.tags) (TitleAndDescription block.Examples e.location e.keyword e.name e.description) (AtMostOne IsExampleTable e.table) ls cs t)
 
 examples_from : (e : Examples) (ls : List Line) (cs : List tree.Comment) → IsFlatBlock (examples_flat_block e) ls cs → IsExamples e ls cs
 examples_from e ls cs t =
-    to_right (TagLines e.tags) (Titled block.Examples e.location e.keyword e.name e.description) (AtMostOne IsExampleTable e.table) ls cs
-    (mapped (Then (TagLines e.tags) (Titled block.Examples e.location e.keyword e.name e.description)) (IsRows (table_rows e.table)) (AtMostOne IsExampleTable e.table) (rows_from e.table) ls cs t)
+    to_right (TagLines e.tags) (TitleAndDescription block.Examples e.location e.keyword e.name e.description) (AtMostOne IsExampleTable e.table) ls cs
+    (mapped (Then (TagLines e.tags) (TitleAndDescription block.Examples e.location e.keyword e.name e.description)) (IsRows (table_rows e.table)) (AtMostOne IsExampleTable e.table) (rows_from e.table) ls cs t)
 
 -- a header and what is below it
 headed : (P Q R S : Piece) (ls : List Line) (cs : List tree.Comment) → Then P (Then Q (Then R S)) ls cs → Then (Then (Then P Q) R) S ls cs
@@ -135,11 +135,11 @@ unheaded P Q R S ls cs t = to_right P Q (Then R S) ls cs (to_right (Then P Q) R 
 scenario_to : (s : Scenario) (ls : List Line) (cs : List tree.Comment) → IsScenario s ls cs → Each IsFlatBlock (scenario_flat_blocks s) ls cs
 scenario_to s ls cs t =
     mapped (IsFlatBlock (scenario_flat_block s)) (Each IsExamples s.examples) (Each IsFlatBlock (map examples_flat_block s.examples)) (λ us vs r. each_map IsExamples IsFlatBlock examples_flat_block examples_to s.examples us vs r) ls cs
-    (headed (TagLines s.tags) (Titled block.Scenario s.location s.keyword s.name s.description) (Each IsStep s.steps) (Each IsExamples s.examples) ls cs t)
+    (headed (TagLines s.tags) (TitleAndDescription block.Scenario s.location s.keyword s.name s.description) (Each IsStep s.steps) (Each IsExamples s.examples) ls cs t)
 
 scenario_from : (s : Scenario) (ls : List Line) (cs : List tree.Comment) → Each IsFlatBlock (scenario_flat_blocks s) ls cs → IsScenario s ls cs
 scenario_from s ls cs t =
-    unheaded (TagLines s.tags) (Titled block.Scenario s.location s.keyword s.name s.description) (Each IsStep s.steps) (Each IsExamples s.examples) ls cs
+    unheaded (TagLines s.tags) (TitleAndDescription block.Scenario s.location s.keyword s.name s.description) (Each IsStep s.steps) (Each IsExamples s.examples) ls cs
     (mapped (IsFlatBlock (scenario_flat_block s)) (Each IsFlatBlock (map examples_flat_block s.examples)) (Each IsExamples s.examples) (λ us vs r. each_unmap IsExamples IsFlatBlock examples_flat_block examples_from s.examples us vs r) ls cs t)
 
 pub both : (P P' Q Q' : Piece) → ((ls : List Line) (cs : List tree.Comment) → P ls cs → P' ls cs) → ((ls : List Line) (cs : List tree.Comment) → Q ls cs → Q' ls cs) →
@@ -162,13 +162,13 @@ nothing_first P Q p ls cs q = record { front = []; back = ls; front_comments = [
 background_to : (b : Option Background) (ls : List Line) (cs : List tree.Comment) → AtMostOne IsBackground b ls cs → Each IsFlatBlock (background_flat_blocks b) ls cs
 background_to None ls cs t = t
 background_to (Some b) ls cs t =
-    then_nothing _ ls cs (to_left (FlatBlockTags block.Background []) (Titled block.Background b.location b.keyword b.name b.description) (Each IsStep b.steps) ls cs
+    then_nothing _ ls cs (to_left (FlatBlockTags block.Background []) (TitleAndDescription block.Background b.location b.keyword b.name b.description) (Each IsStep b.steps) ls cs
     (nothing_first (FlatBlockTags block.Background []) (IsBackground b) (refl, (refl, refl)) ls cs t))
 
 background_from : (b : Option Background) (ls : List Line) (cs : List tree.Comment) → Each IsFlatBlock (background_flat_blocks b) ls cs → AtMostOne IsBackground b ls cs
 background_from None ls cs t = t
 background_from (Some b) ls cs t =
-    let u = to_right (FlatBlockTags block.Background []) (Titled block.Background b.location b.keyword b.name b.description) (Each IsStep b.steps) ls cs (only_first _ ls cs t) in
+    let u = to_right (FlatBlockTags block.Background []) (TitleAndDescription block.Background b.location b.keyword b.name b.description) (Each IsStep b.steps) ls cs (only_first _ ls cs t) in
     nothing_then (IsBackground b) ls cs (record { front = u.front; back = u.back; front_comments = u.front_comments; back_comments = u.back_comments; cut = u.cut; comments = u.comments; first = u.first.1; second = u.second })
 
 rule_to : (r : Rule) (ls : List Line) (cs : List tree.Comment) → IsRule r ls cs → Each IsFlatBlock (rule_flat_blocks r) ls cs
@@ -178,11 +178,11 @@ rule_to r ls cs t =
     (λ us vs h. each_both IsFlatBlock (background_flat_blocks r.background) (flat_map scenario_flat_blocks r.scenarios) us vs
     (both (AtMostOne IsBackground r.background) (Each IsFlatBlock (background_flat_blocks r.background)) (Each IsScenario r.scenarios) (Each IsFlatBlock (flat_map scenario_flat_blocks r.scenarios))
     (background_to r.background) (each_flat IsScenario IsFlatBlock scenario_flat_blocks scenario_to r.scenarios) us vs h)) ls cs
-    (to_left (TagLines r.tags) (Titled block.Rule r.location r.keyword r.name r.description) (Then (AtMostOne IsBackground r.background) (Each IsScenario r.scenarios)) ls cs t)
+    (to_left (TagLines r.tags) (TitleAndDescription block.Rule r.location r.keyword r.name r.description) (Then (AtMostOne IsBackground r.background) (Each IsScenario r.scenarios)) ls cs t)
 
 rule_from : (r : Rule) (ls : List Line) (cs : List tree.Comment) → Each IsFlatBlock (rule_flat_blocks r) ls cs → IsRule r ls cs
 rule_from r ls cs t =
-    to_right (TagLines r.tags) (Titled block.Rule r.location r.keyword r.name r.description) (Then (AtMostOne IsBackground r.background) (Each IsScenario r.scenarios)) ls cs
+    to_right (TagLines r.tags) (TitleAndDescription block.Rule r.location r.keyword r.name r.description) (Then (AtMostOne IsBackground r.background) (Each IsScenario r.scenarios)) ls cs
     (both (IsFlatBlock (rule_flat_block r)) (IsHead (rule_flat_block r)) (Each IsFlatBlock (background_flat_blocks r.background ++ flat_map scenario_flat_blocks r.scenarios)) (Then (AtMostOne IsBackground r.background) (Each IsScenario r.scenarios))
     (λ us vs h. only_first (IsHead (rule_flat_block r)) us vs h)
     (λ us vs h. both (Each IsFlatBlock (background_flat_blocks r.background)) (AtMostOne IsBackground r.background) (Each IsFlatBlock (flat_map scenario_flat_blocks r.scenarios)) (Each IsScenario r.scenarios)
@@ -202,11 +202,11 @@ feature_to f ls cs t =
     (λ as1 bs1 g. each_both IsFlatBlock (flat_map scenario_flat_blocks f.scenarios) (flat_map rule_flat_blocks f.rules) as1 bs1
     (both (Each IsScenario f.scenarios) (Each IsFlatBlock (flat_map scenario_flat_blocks f.scenarios)) (Each IsRule f.rules) (Each IsFlatBlock (flat_map rule_flat_blocks f.rules))
     (each_flat IsScenario IsFlatBlock scenario_flat_blocks scenario_to f.scenarios) (each_flat IsRule IsFlatBlock rule_flat_blocks rule_to f.rules) as1 bs1 g)) us vs h)) ls cs
-    (to_left (TagLines f.tags) (Titled block.Feature f.location f.keyword f.name f.description) (Then (AtMostOne IsBackground f.background) (Then (Each IsScenario f.scenarios) (Each IsRule f.rules))) ls cs t)
+    (to_left (TagLines f.tags) (TitleAndDescription block.Feature f.location f.keyword f.name f.description) (Then (AtMostOne IsBackground f.background) (Then (Each IsScenario f.scenarios) (Each IsRule f.rules))) ls cs t)
 
 pub feature_from : (f : Feature) (ls : List Line) (cs : List tree.Comment) → Each IsFlatBlock (feature_flat_blocks f) ls cs → IsFeature f ls cs
 feature_from f ls cs t =
-    to_right (TagLines f.tags) (Titled block.Feature f.location f.keyword f.name f.description) (Then (AtMostOne IsBackground f.background) (Then (Each IsScenario f.scenarios) (Each IsRule f.rules))) ls cs
+    to_right (TagLines f.tags) (TitleAndDescription block.Feature f.location f.keyword f.name f.description) (Then (AtMostOne IsBackground f.background) (Then (Each IsScenario f.scenarios) (Each IsRule f.rules))) ls cs
     (both (IsFlatBlock (feature_flat_block f)) (IsHead (feature_flat_block f)) (Each IsFlatBlock (below f)) (Then (AtMostOne IsBackground f.background) (Then (Each IsScenario f.scenarios) (Each IsRule f.rules)))
     (λ us vs h. only_first (IsHead (feature_flat_block f)) us vs h)
     (λ us vs h. both (Each IsFlatBlock (background_flat_blocks f.background)) (AtMostOne IsBackground f.background) (Each IsFlatBlock (flat_map scenario_flat_blocks f.scenarios ++ flat_map rule_flat_blocks f.rules)) (Then (Each IsScenario f.scenarios) (Each IsRule f.rules))

@@ -10,7 +10,7 @@ use Rattle.gk_document.specs.declared.tree.KeywordType.{KeywordType}
 use Rattle.gk_grammar.specs.Token.{Utf8, TagText, Blank, Tags, Title, Step, Row, Line, line}
 use Rattle.gk_grammar.specs.Tree as tree
 use Rattle.gk_grammar.specs.Tree.{Tag, Location}
-use Rattle.gk_grammar.specs.Grammar.{Nothing, Each, OneLine, comments_of, IsTagLine, place_and_name, tag_at, Titled, stops, description_of, IsStep, IsTable, IsRow, at, Node, step_nodes, row_nodes, tag_nodes, node_of_row}
+use Rattle.gk_grammar.specs.Grammar.{Nothing, Each, OneLine, comments_of, IsTagLine, place_and_name, tag_at, TitleAndDescription, stops, description_of, IsStep, IsTable, IsRow, at, Node, step_nodes, row_nodes, tag_nodes, node_of_row}
 use Rattle.gk_grammar.specs.Machine.{Body, Bare, Steps, Rows, FlatBlock, Phase, AfterTags, InDescription, AfterStep, InExamplesTable, State, PlacedFault, next, run, ◌>>=◌, add_tags, open_block, new_block, follows, takes_tags, title_node_count, with_steps, with_rows, with_description, blocks_at_end, tags_from, empty_body, after_description, pass_over}
 use Rattle.gk_grammar.proofs.Pieces.{comments_of-append, only_first}
 use Rattle.gk_grammar.proofs.Open.{IsBody, IsFlatBlock, FlatBlockTags}
@@ -139,7 +139,7 @@ flat_block_is a b p q r s t u v w = λ i. record { block = p i; node = q i; plac
 -- a title line, in a phase where the flat block may begin, and the description after it
 run_titled : (c : FlatBlock) (p : Phase) (n : ℕ) (ch dh : List FlatBlock) → c.node ≡ n →
     ((cs : List tree.Comment) (m i : ℕ) (t k x : Utf8) → next (state_of cs n ch p) (line m t i (Title c.block k x)) ≡ Ok (open_block (state_of cs n dh p) c.block c.tags m i k x)) →
-    (ls : List Line) (cs : List tree.Comment) → Titled c.block c.place c.keyword c.name c.description ls cs → (before : List tree.Comment) (rest : List Line) →
+    (ls : List Line) (cs : List tree.Comment) → TitleAndDescription c.block c.place c.keyword c.name c.description ls cs → (before : List tree.Comment) (rest : List Line) →
     (lines : List Line) × (description_of lines ≡ c.description) × (run (state_of before n ch p) (ls ++ rest) ≡ run (state_of (before ++ cs) (n + title_node_count c.block) dh (InDescription (fresh c) lines)) rest)
 run_titled c p n ch dh e f [] cs h before rest = absurd h
 run_titled c p n ch dh e f (line m t i (Title b k x) ∷ ls) cs h before rest = (

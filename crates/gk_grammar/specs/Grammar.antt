@@ -131,9 +131,9 @@ IsTitle b place keyword name (line number _ indent (Title other its_keyword its_
 IsTitle b place keyword name _ = ⊥
 
 -- a title line and the description after it
-abbrev pub Titled : Block → Location → (keyword name description : Utf8) → Piece
-Titled b place keyword name description [] cs = ⊥
-Titled b place keyword name description (l ∷ ls) cs =
+abbrev pub TitleAndDescription : Block → Location → (keyword name description : Utf8) → Piece
+TitleAndDescription b place keyword name description [] cs = ⊥
+TitleAndDescription b place keyword name description (l ∷ ls) cs =
     IsTitle b place keyword name l × AllByRecursion (λ x. IsFalse (stops b x)) ls
     × (description ≡ description_of ls) × (cs ≡ comments_of ls)
 
@@ -206,7 +206,7 @@ IsStep s = OneLine (IsStepLine s) ⨾ AtMostOne IsArgument s.argument
 -- a title, a description and steps (`gherkin.berp`: Background)
 abbrev pub IsBackground : Background → Piece
 IsBackground b =
-    Titled block.Background b.location b.keyword b.name b.description ⨾ Each IsStep b.steps
+    TitleAndDescription block.Background b.location b.keyword b.name b.description ⨾ Each IsStep b.steps
 
 -- a table whose header is the first row
 abbrev pub IsExampleTable : ExampleTable → Piece
@@ -215,25 +215,25 @@ IsExampleTable t = IsTable (t.header ∷ t.body)
 -- tags, a title, a description, and a table at most once (`gherkin.berp`: ExamplesDefinition)
 abbrev pub IsExamples : Examples → Piece
 IsExamples e =
-    TagLines e.tags ⨾ Titled block.Examples e.location e.keyword e.name e.description
+    TagLines e.tags ⨾ TitleAndDescription block.Examples e.location e.keyword e.name e.description
     ⨾ AtMostOne IsExampleTable e.table
 
 -- tags, a title, a description, steps, and examples blocks (`gherkin.berp`: ScenarioDefinition)
 abbrev pub IsScenario : Scenario → Piece
 IsScenario s =
-    TagLines s.tags ⨾ Titled block.Scenario s.location s.keyword s.name s.description
+    TagLines s.tags ⨾ TitleAndDescription block.Scenario s.location s.keyword s.name s.description
     ⨾ Each IsStep s.steps ⨾ Each IsExamples s.examples
 
 -- tags, a title, a description, a background at most once, and scenarios (`gherkin.berp`: Rule)
 abbrev pub IsRule : Rule → Piece
 IsRule r =
-    TagLines r.tags ⨾ Titled block.Rule r.location r.keyword r.name r.description
+    TagLines r.tags ⨾ TitleAndDescription block.Rule r.location r.keyword r.name r.description
     ⨾ AtMostOne IsBackground r.background ⨾ Each IsScenario r.scenarios
 
 -- tags, a title, a description, a background at most once, scenarios, and rules (`gherkin.berp`: Feature)
 abbrev pub IsFeature : Feature → Piece
 IsFeature f =
-    TagLines f.tags ⨾ Titled block.Feature f.location f.keyword f.name f.description
+    TagLines f.tags ⨾ TitleAndDescription block.Feature f.location f.keyword f.name f.description
     ⨾ AtMostOne IsBackground f.background ⨾ Each IsScenario f.scenarios ⨾ Each IsRule f.rules
 
 -- ---- documents

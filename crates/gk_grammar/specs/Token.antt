@@ -8,13 +8,10 @@ use Rattle.gk_line.specs.Tokens.{indent_of, is_blank_line, begins_by, language_o
 use Rattle.gk_line.specs.Tags.{TagWord, tags_of, spaced_piece}
 use Rattle.gk_line.specs.Cells.{CellText, cells_of}
 use Rattle.gk_line.specs.declared.tokens.Block.{Block}
+pub use Rattle.gk_document.specs.Texts.{Utf8}
 use Rattle.gk_document.specs.declared.tree.Cell.{Cell}
 use Rattle.gk_document.specs.declared.tree.KeywordType.{KeywordType}
 use Rattle.gk_document.specs.declared.tree.Fence.{Fence}
-
--- a text, by its bytes
-abbrev pub Utf8 : Type 0
-Utf8 = List ℕ
 
 -- a tag without its `@`, and the column of the `@`
 pub record TagText : Type 0 where

@@ -11,7 +11,7 @@ use Rattle.gk_document.specs.declared.tree.Argument.TheVariants.{Table, Text as 
 use Rattle.gk_grammar.specs.Token.{Utf8, TagText, Blank, Tags, Title, Step, Row, Fenced, Line, line}
 use Rattle.gk_grammar.specs.Tree as tree
 use Rattle.gk_grammar.specs.Tree.{Location, Tag, DocString, Argument, Background, ExampleTable, Examples, Scenario, Rule, Feature}
-use Rattle.gk_grammar.specs.Grammar.{Piece, Then, ◌⨾◌, Nothing, Each, AtMostOne, OneLine, at, place_and_name, tag_at, IsTagLine, TagLines, Titled, IsRow, IsTable, IsDocString, IsArgument, IsStepLine, IsStep, IsBackground, IsExampleTable, IsExamples, IsScenario, IsRule, IsFeature, IsOpening, IsFeatureText, table_rows}
+use Rattle.gk_grammar.specs.Grammar.{Piece, Then, ◌⨾◌, Nothing, Each, AtMostOne, OneLine, at, place_and_name, tag_at, IsTagLine, TagLines, TitleAndDescription, IsRow, IsTable, IsDocString, IsArgument, IsStepLine, IsStep, IsBackground, IsExampleTable, IsExamples, IsScenario, IsRule, IsFeature, IsOpening, IsFeatureText, table_rows}
 use Rattle.gk_laws.specs.Marks.{Exactly, AsTag, Mark, tag_mark, tag_marks, row_mark, row_marks, argument_marks, step_marks, background_marks, examples_marks, scenario_marks, rule_marks, feature_marks}
 use Rattle.gk_laws.proofs.LineMarks.{line_marks}
 
@@ -114,7 +114,7 @@ same_mark p q k m e f =
     ap (λ (z : Location). (z, Exactly k)) e ∙ ap (λ (z : Utf8). (q, Exactly z)) f
 
 title_marks : (b : Block) (p : Location) (k m d : Utf8)
-    → MarksOf (Titled b p k m d) ((p, Exactly k) ∷ [])
+    → MarksOf (TitleAndDescription b p k m d) ((p, Exactly k) ∷ [])
 title_marks b p k m d [] cs h = absurd h
 title_marks b p k m d (line n t i (Title c y z) ∷ ls) cs h =
     inl (same_mark p (at n (i + 1)) k y h.0.1 h.0.2, tt)
@@ -174,7 +174,7 @@ step_marks_of s =
 background_marks_of : (o : Option Background) → MarksOf (AtMostOne IsBackground o) (background_marks o)
 background_marks_of None = no_marks Nothing
 background_marks_of (Some b) =
-    marks_then (Titled block.Background b.location b.keyword b.name b.description) (Each IsStep b.steps)
+    marks_then (TitleAndDescription block.Background b.location b.keyword b.name b.description) (Each IsStep b.steps)
     ((b.location, Exactly b.keyword) ∷ []) (flat_map step_marks b.steps)
     (title_marks block.Background b.location b.keyword b.name b.description)
     (marks_each IsStep step_marks step_marks_of b.steps)
@@ -187,11 +187,11 @@ example_table_marks (Some t) = table_marks (t.header ∷ t.body)
 -- a header, and what is below it
 header_marks : (b : Block) (p : Location) (tags : List Tag) (k m d : Utf8) (Q : Piece)
     (below : List Mark) → MarksOf Q below
-    → MarksOf (TagLines tags ⨾ Titled b p k m d ⨾ Q) (tag_marks tags ++ (p, Exactly k) ∷ below)
+    → MarksOf (TagLines tags ⨾ TitleAndDescription b p k m d ⨾ Q) (tag_marks tags ++ (p, Exactly k) ∷ below)
 header_marks b p tags k m d Q below f =
-    marks_then (TagLines tags) (Titled b p k m d ⨾ Q) (tag_marks tags) ((p, Exactly k) ∷ below)
+    marks_then (TagLines tags) (TitleAndDescription b p k m d ⨾ Q) (tag_marks tags) ((p, Exactly k) ∷ below)
     (tag_lines_marks tags)
-    (marks_then (Titled b p k m d) Q ((p, Exactly k) ∷ []) below (title_marks b p k m d) f)
+    (marks_then (TitleAndDescription b p k m d) Q ((p, Exactly k) ∷ []) below (title_marks b p k m d) f)
 
 examples_marks_of : (e : Examples) → MarksOf (IsExamples e) (examples_marks e)
 examples_marks_of e =

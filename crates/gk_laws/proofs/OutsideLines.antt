@@ -11,7 +11,7 @@ use Rattle.gk_line.specs.declared.tokens.Block.TheVariants as block
 use Rattle.gk_grammar.specs.Token.{Utf8, Blank, Comment, Language, Tags, Title, Step, Row, Fenced, Line, line, is_comment, is_gap, is_language}
 use Rattle.gk_grammar.specs.Tree as tree
 use Rattle.gk_grammar.specs.Tree.{Location, Tag, DocString, Background, ExampleTable, Examples, Scenario, Rule, Feature, Document}
-use Rattle.gk_grammar.specs.Grammar.{Piece, Then, ◌⨾◌, Nothing, Each, AtMostOne, comment_of, comments_of, OneLine, IsTagLine, TagLines, Titled, IsRow, IsTable, is_fence, IsDocString, IsArgument, IsStepLine, IsStep, IsBackground, IsExampleTable, IsExamples, IsScenario, IsRule, IsFeature, IsPlainGap, IsEnglish, IsOpening, IsFeatureText}
+use Rattle.gk_grammar.specs.Grammar.{Piece, Then, ◌⨾◌, Nothing, Each, AtMostOne, comment_of, comments_of, OneLine, IsTagLine, TagLines, TitleAndDescription, IsRow, IsTable, is_fence, IsDocString, IsArgument, IsStepLine, IsStep, IsBackground, IsExampleTable, IsExamples, IsScenario, IsRule, IsFeature, IsPlainGap, IsEnglish, IsOpening, IsFeatureText}
 use Rattle.gk_grammar.proofs.Pieces.{comments_of-append}
 use Rattle.gk_laws.specs.Documents.{read_lines}
 use Rattle.gk_laws.specs.Comments.{argument_doc_strings, step_doc_strings, background_doc_strings, scenario_doc_strings, rule_doc_strings, doc_strings, AreOutside, IsFirstLanguage, HasComments, CommentsAreOutside}
@@ -129,7 +129,7 @@ tags_outside : (tags : List Tag) → OutsideOf (TagLines tags) []
 tags_outside tags ls cs h =
     outside_plain (λ ts. OneLine (IsTagLine ts)) (λ ts. outside_line (IsTagLine ts) (tag_line_plain ts)) h.0 ls cs h.2
 
-title_outside : (b : Block) (p : Location) (k m d : Utf8) → OutsideOf (Titled b p k m d) []
+title_outside : (b : Block) (p : Location) (k m d : Utf8) → OutsideOf (TitleAndDescription b p k m d) []
 title_outside b p k m d [] cs h = absurd h
 title_outside b p k m d (line n t i (Title c y z) ∷ ls) cs h = (line n t i (Title c y z) ∷ ls, refl, h.3)
 title_outside b p k m d (line n t i Blank ∷ ls) cs h = absurd h.0
@@ -190,7 +190,7 @@ step_outside s =
 background_outside : (o : Option Background) → OutsideOf (AtMostOne IsBackground o) (background_doc_strings o)
 background_outside None = outside_nothing
 background_outside (Some b) =
-    outside_then (Titled block.Background b.location b.keyword b.name b.description) (Each IsStep b.steps)
+    outside_then (TitleAndDescription block.Background b.location b.keyword b.name b.description) (Each IsStep b.steps)
     [] (flat_map step_doc_strings b.steps)
     (title_outside block.Background b.location b.keyword b.name b.description)
     (outside_each IsStep step_doc_strings step_outside b.steps)
@@ -201,10 +201,10 @@ example_table_outside (Some t) = table_outside (t.header ∷ t.body)
 
 -- a header, and what is below it
 header_outside : (b : Block) (p : Location) (tags : List Tag) (k m d : Utf8) (Q : Piece)
-    (ds : List DocString) → OutsideOf Q ds → OutsideOf (TagLines tags ⨾ Titled b p k m d ⨾ Q) ds
+    (ds : List DocString) → OutsideOf Q ds → OutsideOf (TagLines tags ⨾ TitleAndDescription b p k m d ⨾ Q) ds
 header_outside b p tags k m d Q ds f =
-    outside_then (TagLines tags) (Titled b p k m d ⨾ Q) [] ds (tags_outside tags)
-    (outside_then (Titled b p k m d) Q [] ds (title_outside b p k m d) f)
+    outside_then (TagLines tags) (TitleAndDescription b p k m d ⨾ Q) [] ds (tags_outside tags)
+    (outside_then (TitleAndDescription b p k m d) Q [] ds (title_outside b p k m d) f)
 
 examples_outside : (e : Examples) → OutsideOf (IsExamples e) []
 examples_outside e =
@@ -275,7 +275,7 @@ each_filled (ts ∷ parts) ls cs h =
     line_filled (x ∷ xs) us k = tag_line_filled ts x k.0
 
 title_filled : (b : Block) (p : Location) (k m d : Utf8) (ls : List Line) (cs : List tree.Comment)
-    → Titled b p k m d ls cs → BeginsFilled ls
+    → TitleAndDescription b p k m d ls cs → BeginsFilled ls
 title_filled b p k m d [] cs h = tt
 title_filled b p k m d (line n t i (Title c y z) ∷ ls) cs h = refl
 title_filled b p k m d (line n t i Blank ∷ ls) cs h = absurd h.0
@@ -289,7 +289,7 @@ feature_filled f ls cs h =
     (subst BeginsFilled (sym h.second.cut) (titled h.second.front h.second.front_comments h.second.first)))
   where
     titled : (xs : List Line) (us : List tree.Comment)
-        → Titled block.Feature f.location f.keyword f.name f.description xs us
+        → TitleAndDescription block.Feature f.location f.keyword f.name f.description xs us
         → BeginsFilled (xs ++ h.second.back)
     titled [] us k = absurd k
     titled (x ∷ xs) us k = title_filled block.Feature f.location f.keyword f.name f.description (x ∷ xs) us k

@@ -7,7 +7,7 @@ use Rattle.gk_document.specs.declared.tree.Examples.{Examples}
 use Rattle.gk_document.specs.declared.tree.Scenario.{Scenario}
 use Rattle.gk_pickle.specs.declared.pickles.Pickle.{Pickle}
 use Rattle.gk_pickle.specs.Counts.{body_rows}
-use Rattle.gk_pickle.specs.Inherited.{Inherited}
+use Rattle.gk_pickle.specs.Inheritance.{Inheritance}
 use Rattle.gk_pickle.specs.InFeature.{ScenarioInFeature}
 use Rattle.gk_pickle.specs.Pickles.{outline_pickles, scenario_pickles}
 use Rattle.gk_pickle.specs.Scenarios.{inherited_in, pickles_of_one, scenarios_of}
@@ -19,7 +19,7 @@ abbrev nodes_in : Pickle → List ℕ
 nodes_in p = p.nodes
 
 -- the pickles of one scenario
-nodes_of_one : (inherited : Inherited) (s : Scenario) (es : List Examples) → s.examples ≡ es
+nodes_of_one : (inherited : Inheritance) (s : Scenario) (es : List Examples) → s.examples ≡ es
     → map nodes_in (scenario_pickles inherited s) ≡ nodes_with s es
 nodes_of_one inherited s [] same =
     ap (λ (z : List Examples). map nodes_in (outline_pickles inherited s z)) same

@@ -18,7 +18,7 @@ use Rattle.gk_document.specs.declared.tree.Document.{Document}
 use Rattle.gk_pickle.specs.declared.pickles.StepType.{StepType}
 use Rattle.gk_pickle.specs.declared.pickles.StepType.TheVariants.{Unknown}
 use Rattle.gk_pickle.specs.declared.pickles.PickleStep.{PickleStep}
-use Rattle.gk_pickle.specs.Inherited.{Inherited, Filling, no_filling}
+use Rattle.gk_pickle.specs.Inheritance.{Inheritance, Filling, no_filling}
 use Rattle.gk_pickle.specs.Steps.{own_type, last_or, type_of, keyword_types, filled_by, filled_step, steps_after, pickle_steps}
 use Rattle.gk_pickle.specs.Pickles.{pickle_of, row_filling, table_pickles, examples_pickles, outline_pickles, scenario_pickles, background_steps, in_feature, in_rule, rule_pickles, pickles_in, pickles}
 use Rattle.gk_pickle.specs.Order.{rule_steps, feature_steps, document_steps, IsSubsequence}
@@ -149,7 +149,7 @@ ordered f tags background s (inr h) =
 -- ---- pickles
 
 module _ (d : Document) (f : Feature) (is : d.feature ≡ Some f) where
-  of_pickle : (inherited : Inherited) (s : Scenario) (tags : List Tag) (filling : Filling) → IsScenarioOf f inherited.tags inherited.steps s → IsFillingOf s tags filling → IsOfScenario d (pickle_of inherited s tags filling)
+  of_pickle : (inherited : Inheritance) (s : Scenario) (tags : List Tag) (filling : Filling) → IsScenarioOf f inherited.tags inherited.steps s → IsFillingOf s tags filling → IsOfScenario d (pickle_of inherited s tags filling)
   of_pickle inherited s tags filling h k = record {
     feature = f;
     scenario = s;
@@ -167,21 +167,21 @@ module _ (d : Document) (f : Feature) (is : d.feature ≡ Some f) where
     steps = steps_made inherited.steps s.steps filling;
   }
 
-  of_table : (inherited : Inherited) (s : Scenario) (e : Examples) (o : Option ExampleTable) → IsScenarioOf f inherited.tags inherited.steps s → Contains s.examples e → e.table ≡ o → AllByRecursion (IsOfScenario d) (table_pickles inherited s e.tags o)
+  of_table : (inherited : Inheritance) (s : Scenario) (e : Examples) (o : Option ExampleTable) → IsScenarioOf f inherited.tags inherited.steps s → Contains s.examples e → e.table ≡ o → AllByRecursion (IsOfScenario d) (table_pickles inherited s e.tags o)
   of_table inherited s e None h c same = tt
   of_table inherited s e (Some table) h c same =
       of_each_map (IsOfScenario d) (λ (row : Row). pickle_of inherited s e.tags (row_filling table.header row)) table.body
       (all_elements (λ (row : Row). IsOfScenario d (pickle_of inherited s e.tags (row_filling table.header row))) table.body
       (λ row k. of_pickle inherited s e.tags (row_filling table.header row) h (inr (e, table, row, c, same, k, refl, refl))))
 
-  of_outline : (inherited : Inherited) (s : Scenario) (blocks : List Examples) → IsScenarioOf f inherited.tags inherited.steps s → s.examples ≡ blocks → AllByRecursion (IsOfScenario d) (outline_pickles inherited s blocks)
+  of_outline : (inherited : Inheritance) (s : Scenario) (blocks : List Examples) → IsScenarioOf f inherited.tags inherited.steps s → s.examples ≡ blocks → AllByRecursion (IsOfScenario d) (outline_pickles inherited s blocks)
   of_outline inherited s [] h same = (of_pickle inherited s [] no_filling h (inl (same, refl, refl)), tt)
   of_outline inherited s (e ∷ es) h same =
       of_each_flat_map (IsOfScenario d) (examples_pickles inherited s) (e ∷ es)
       (all_elements (λ (b : Examples). AllByRecursion (IsOfScenario d) (examples_pickles inherited s b)) (e ∷ es)
       (λ b c. of_table inherited s b b.table h (subst (λ (l : List Examples). Contains l b) (sym same) c) refl))
 
-  of_scenarios : (inherited : Inherited) (ss : List Scenario) → ((s : Scenario) → Contains ss s → IsScenarioOf f inherited.tags inherited.steps s) → AllByRecursion (IsOfScenario d) (flat_map (scenario_pickles inherited) ss)
+  of_scenarios : (inherited : Inheritance) (ss : List Scenario) → ((s : Scenario) → Contains ss s → IsScenarioOf f inherited.tags inherited.steps s) → AllByRecursion (IsOfScenario d) (flat_map (scenario_pickles inherited) ss)
   of_scenarios inherited ss h =
       of_each_flat_map (IsOfScenario d) (scenario_pickles inherited) ss
       (all_elements (λ (s : Scenario). AllByRecursion (IsOfScenario d) (scenario_pickles inherited s)) ss (λ s c. of_outline inherited s s.examples (h s c) refl))

@@ -16,7 +16,7 @@ use Rattle.gk_pickle.specs.declared.pickles.StepType.TheVariants.{Unknown}
 use Rattle.gk_pickle.specs.declared.pickles.PickleArgument.{PickleArgument}
 use Rattle.gk_pickle.specs.declared.pickles.PickleStep.{PickleStep}
 use Rattle.gk_pickle.specs.declared.pickles.Pickle.{Pickle}
-use Rattle.gk_pickle.specs.Inherited.{Filling, no_filling}
+use Rattle.gk_pickle.specs.Inheritance.{Filling, no_filling}
 use Rattle.gk_pickle.specs.Steps.{own_type, keyword_types, filled_by, filled_argument}
 use Rattle.gk_pickle.specs.Pickles.{background_steps, pickle_tag, row_filling, pickles}
 use Rattle.gk_pickle.specs.InFeature.{ScenarioInFeature}

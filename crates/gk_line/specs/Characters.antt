@@ -1,11 +1,6 @@
 -- The characters that mark the tokens of a line, by their Unicode scalar values.
 use Rattle.std.specs.Prelude.{ℕ}
-
-abbrev pub line_feed : ℕ
-line_feed = 10
-
-abbrev pub carriage_return : ℕ
-carriage_return = 13
+pub use Rattle.gk_document.specs.Texts.{line_feed, carriage_return}
 
 abbrev pub plain_space : ℕ
 plain_space = 32

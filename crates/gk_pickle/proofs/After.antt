@@ -5,7 +5,7 @@ use Rattle.gk_document.specs.declared.tree.KeywordType.{KeywordType}
 use Rattle.gk_document.specs.declared.tree.Step.{Step}
 use Rattle.gk_pickle.specs.declared.pickles.StepType.{StepType}
 use Rattle.gk_pickle.specs.declared.pickles.PickleStep.{PickleStep}
-use Rattle.gk_pickle.specs.Inherited.{Filling, no_filling}
+use Rattle.gk_pickle.specs.Inheritance.{Filling, no_filling}
 use Rattle.gk_pickle.specs.Steps.{type_of, keyword_types, filled_step, steps_after, pickle_steps}
 
 pub keywords_more : (earlier : List KeywordType) (steps : List Step) (i : ℕ) (s : Step) → i < length steps → s ≡ get_or steps i s

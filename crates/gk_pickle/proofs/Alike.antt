@@ -13,7 +13,7 @@ use Rattle.gk_pickle.specs.declared.pickles.StepType.{StepType}
 use Rattle.gk_pickle.specs.declared.pickles.PickleArgument.{PickleArgument}
 use Rattle.gk_pickle.specs.declared.pickles.PickleArgument.TheVariants as value
 use Rattle.gk_pickle.specs.declared.pickles.PickleStep.{PickleStep}
-use Rattle.gk_pickle.specs.Inherited.{Filling, no_filling}
+use Rattle.gk_pickle.specs.Inheritance.{Filling, no_filling}
 use Rattle.gk_pickle.specs.Fill.{placeholder, filled_text}
 use Rattle.gk_document.specs.MediaType.{unless_empty}
 use Rattle.gk_pickle.specs.Steps.{type_of, filled_by, filled_row, filled_argument, steps_after, keyword_types, pickle_steps}

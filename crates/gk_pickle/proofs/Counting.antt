@@ -9,7 +9,7 @@ use Rattle.gk_document.specs.declared.tree.ExampleTable.{ExampleTable}
 use Rattle.gk_document.specs.declared.tree.Examples.{Examples}
 use Rattle.gk_document.specs.declared.tree.Scenario.{Scenario}
 use Rattle.gk_pickle.specs.declared.pickles.Pickle.{Pickle}
-use Rattle.gk_pickle.specs.Inherited.{Inherited}
+use Rattle.gk_pickle.specs.Inheritance.{Inheritance}
 use Rattle.gk_pickle.specs.Pickles.{pickle_of, row_filling, table_pickles, examples_pickles, outline_pickles}
 use Rattle.gk_document.specs.ExampleRows.{table_rows_of}
 use Rattle.gk_pickle.specs.Counts.{body_rows, OneWithoutExamples, OneForEachRow, RowsInOrder}
@@ -20,17 +20,17 @@ nodes p = p.nodes
 abbrev row_nodes : Scenario → Row → List ℕ
 row_nodes s row = s.node ∷ row.node ∷ []
 
-of_rows : (inherited : Inherited) (s : Scenario) (tags : List Tag) (header : Row) (rows : List Row)
+of_rows : (inherited : Inheritance) (s : Scenario) (tags : List Tag) (header : Row) (rows : List Row)
     → map nodes (map (λ row. pickle_of inherited s tags (row_filling header row)) rows) ≡ map (row_nodes s) rows
 of_rows inherited s tags header [] = refl
 of_rows inherited s tags header (row ∷ rows) = ap (λ ns. row_nodes s row ∷ ns) (of_rows inherited s tags header rows)
 
-of_table : (inherited : Inherited) (s : Scenario) (tags : List Tag) (table : Option ExampleTable)
+of_table : (inherited : Inheritance) (s : Scenario) (tags : List Tag) (table : Option ExampleTable)
     → map nodes (table_pickles inherited s tags table) ≡ map (row_nodes s) (table_rows_of table)
 of_table inherited s tags None = refl
 of_table inherited s tags (Some table) = of_rows inherited s tags table.header table.body
 
-of_blocks : (inherited : Inherited) (s : Scenario) (blocks : List Examples)
+of_blocks : (inherited : Inheritance) (s : Scenario) (blocks : List Examples)
     → map nodes (flat_map (examples_pickles inherited s) blocks) ≡ map (row_nodes s) (flat_map body_rows blocks)
 of_blocks inherited s [] = refl
 of_blocks inherited s (e ∷ es) =
@@ -39,7 +39,7 @@ of_blocks inherited s (e ∷ es) =
     ∙ ap (λ ns. map (row_nodes s) (body_rows e) ++ ns) (of_blocks inherited s es)
     ∙ sym (map-append (row_nodes s) (body_rows e) (flat_map body_rows es))
 
-of_outline : (inherited : Inherited) (s : Scenario) (blocks : List Examples) → blocks ≢ []
+of_outline : (inherited : Inheritance) (s : Scenario) (blocks : List Examples) → blocks ≢ []
     → map nodes (outline_pickles inherited s blocks) ≡ map (row_nodes s) (flat_map body_rows blocks)
 of_outline inherited s [] some = absurd (some refl)
 of_outline inherited s (e ∷ es) some = of_blocks inherited s (e ∷ es)

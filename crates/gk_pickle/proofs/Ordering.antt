@@ -12,7 +12,7 @@ use Rattle.gk_document.specs.declared.tree.Scenario.{Scenario}
 use Rattle.gk_document.specs.declared.tree.Rule.{Rule}
 use Rattle.gk_document.specs.declared.tree.Feature.{Feature}
 use Rattle.gk_pickle.specs.declared.pickles.PickleStep.{PickleStep}
-use Rattle.gk_pickle.specs.Inherited.{Inherited, Filling, no_filling}
+use Rattle.gk_pickle.specs.Inheritance.{Inheritance, Filling, no_filling}
 use Rattle.gk_pickle.specs.Steps.{steps_after, keyword_types, pickle_steps}
 use Rattle.gk_pickle.specs.Pickles.{pickle_of, row_filling, table_pickles, examples_pickles, outline_pickles, scenario_pickles, background_steps, in_feature, in_rule, rule_pickles, pickles_in, pickles}
 use Rattle.gk_pickle.specs.Order.{rule_steps, document_steps, IsSubsequence, first_node, ComesFrom, StepsInDocumentOrder}
@@ -84,7 +84,7 @@ from_steps background (s ∷ ss) all f h = (
       ∙ sym (map-append node background (s ∷ ss)),
 )
 
-module _ (inherited : Inherited) (s : Scenario) (all : List Step) (h : IsSubsequence (inherited.steps ++ s.steps) all) where
+module _ (inherited : Inheritance) (s : Scenario) (all : List Step) (h : IsSubsequence (inherited.steps ++ s.steps) all) where
   from_pickle : (tags : List Tag) (f : Filling) → ComesFrom all (pickle_of inherited s tags f)
   from_pickle tags f = from_steps inherited.steps s.steps all f h
 
@@ -96,7 +96,7 @@ module _ (inherited : Inherited) (s : Scenario) (all : List Step) (h : IsSubsequ
   from_outline [] = (from_pickle [] no_filling, tt)
   from_outline (e ∷ es) = of_flat_map (ComesFrom all) (examples_pickles inherited s) (e ∷ es) (λ block. from_table block.tags block.table)
 
-from_scenarios : (inherited : Inherited) (ss : List Scenario) (all : List Step) → IsSubsequence (inherited.steps ++ flat_map own_steps ss) all
+from_scenarios : (inherited : Inheritance) (ss : List Scenario) (all : List Step) → IsSubsequence (inherited.steps ++ flat_map own_steps ss) all
     → AllByRecursion (ComesFrom all) (flat_map (scenario_pickles inherited) ss)
 from_scenarios inherited [] all h = tt
 from_scenarios inherited (s ∷ ss) all h =

@@ -11,7 +11,7 @@ use Rattle.gk_document.specs.declared.tree.Examples.{Examples}
 use Rattle.gk_document.specs.declared.tree.Scenario.{Scenario}
 use Rattle.gk_document.specs.declared.tree.Rule.{Rule}
 use Rattle.gk_document.specs.declared.tree.Feature.{Feature}
-use Rattle.gk_pickle.specs.Inherited.{Inherited}
+use Rattle.gk_pickle.specs.Inheritance.{Inheritance}
 use Rattle.gk_pickle.specs.Pickles.{pickle_of, row_filling, examples_pickles, outline_pickles, scenario_pickles, rule_pickles, pickles_in}
 use Rattle.gk_pickle.specs.Rest.{IsNext, from_block, from_row, from_scenario, group_pickles, groups, inherited_at, of_outline, rest_in, rest_of_group, rest_of_scenario, scenarios_at}
 use Rattle.gk_pickle.specs.Spot.{Group, Spot, spot_pickle}
@@ -24,25 +24,25 @@ next_made f xs i x v l e is =
     ∙ ap (λ y. y ∷ map f (drop (i + 1) xs)) (sym is) ∙ ap (λ ys. v ∷ ys) (sym (drop-map f (i + 1) xs))
 
 -- the next pickle of a block's table
-pub next_row : (inherited : Inherited) (s : Scenario) (e : Examples) (table : ExampleTable) (rows : List Row) (i : ℕ) (row : Row) (tags : List Tag)
+pub next_row : (inherited : Inheritance) (s : Scenario) (e : Examples) (table : ExampleTable) (rows : List Row) (i : ℕ) (row : Row) (tags : List Tag)
     → e.table ≡ Some table → rows ≡ table.body → i < length rows → row ≡ get_or rows i row → tags ≡ e.tags
     → drop i (examples_pickles inherited s e) ≡ pickle_of inherited s tags (row_filling table.header row) ∷ drop (i + 1) (examples_pickles inherited s e)
 next_row inherited s e table rows i row tags is same l at are =
     rw (is, are) (rw (← same) (next_made (λ (row : Row). pickle_of inherited s e.tags (row_filling table.header row)) rows i row _ l at refl))
 
 -- a scenario from its first row on
-pub whole_scenario : (inherited : Inherited) (s : Scenario) → rest_of_scenario inherited s 0 0 ≡ scenario_pickles inherited s
+pub whole_scenario : (inherited : Inheritance) (s : Scenario) → rest_of_scenario inherited s 0 0 ≡ scenario_pickles inherited s
 whole_scenario inherited s = go s.examples
   where
     go : (es : List Examples) → of_outline inherited s es 0 0 ≡ outline_pickles inherited s es
     go [] = refl
     go (e ∷ es) = refl
 
-pub whole_scenarios : (inherited : Inherited) (ss : List Scenario) → from_block inherited ss 0 0 ≡ flat_map (scenario_pickles inherited) ss
+pub whole_scenarios : (inherited : Inheritance) (ss : List Scenario) → from_block inherited ss 0 0 ≡ flat_map (scenario_pickles inherited) ss
 whole_scenarios inherited [] = refl
 whole_scenarios inherited (s ∷ ss) = ap (λ ps. ps ++ flat_map (scenario_pickles inherited) ss) (whole_scenario inherited s)
 
-pub whole_blocks : (inherited : Inherited) (s : Scenario) (es : List Examples) → from_row inherited s es 0 ≡ flat_map (examples_pickles inherited s) es
+pub whole_blocks : (inherited : Inheritance) (s : Scenario) (es : List Examples) → from_row inherited s es 0 ≡ flat_map (examples_pickles inherited s) es
 whole_blocks inherited s [] = refl
 whole_blocks inherited s (e ∷ es) = refl
 

@@ -13,7 +13,7 @@ use Rattle.gk_pickle.specs.declared.pickles.StepType.{StepType}
 use Rattle.gk_pickle.specs.declared.pickles.PickleArgument.{PickleArgument}
 use Rattle.gk_pickle.specs.declared.pickles.PickleStep.{PickleStep}
 use Rattle.gk_pickle.specs.declared.pickles.Pickle.{Pickle}
-use Rattle.gk_pickle.specs.Inherited.{Inherited}
+use Rattle.gk_pickle.specs.Inheritance.{Inheritance}
 use Rattle.gk_pickle.specs.Cut.{Lacks}
 use Rattle.gk_pickle.specs.Fill.{placeholder}
 use Rattle.gk_pickle.specs.Pickles.{pickle_of, row_filling}
@@ -44,7 +44,7 @@ pub record IsAlike (p q : Pickle) : Type 0 where
   pub steps : map content p.steps ≡ map content q.steps
 
 abbrev pub RowsCompileAlike : Type 0
-RowsCompileAlike = (inherited : Inherited) (s : Scenario) (tags : List Tag) (header row other : Row)
+RowsCompileAlike = (inherited : Inheritance) (s : Scenario) (tags : List Tag) (header row other : Row)
     → AllByRecursion (HasNoPlaceholder header.cells) (scenario_texts s)
     → IsAlike (pickle_of inherited s tags (row_filling header row))
     (pickle_of inherited s tags (row_filling header other))

@@ -3,7 +3,7 @@
 -- SinglePass: what one pass over a text has read and does, in the contracts of `src/fill_single_pass` and of
 --   `src/columns`; no public contract needs it
 -- Columns: the columns of a header by their names, as a map has them
--- Inherited: what a scenario's pickles inherit of its feature and rule
+-- Inheritance: what a scenario's pickles inherit of its feature and rule
 -- Steps: the steps of a pickle (Cucumber Messages, `Pickle.json`, `PickleStep`)
 -- Pickles: the pickles of a document, in order (Cucumber Messages, `Pickle.json`; Cucumber's Gherkin reference on
 --   backgrounds, rules, scenario outlines and tag inheritance)
@@ -20,7 +20,7 @@
 pub mod Fill
 pub mod SinglePass
 pub mod Columns
-pub mod Inherited
+pub mod Inheritance
 pub mod Steps
 pub mod Pickles
 pub mod InFeature

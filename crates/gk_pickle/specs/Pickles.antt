@@ -14,14 +14,14 @@ use Rattle.gk_document.specs.declared.tree.Feature.{Feature}
 use Rattle.gk_document.specs.declared.tree.Document.{Document}
 use Rattle.gk_pickle.specs.declared.pickles.PickleTag.{PickleTag}
 use Rattle.gk_pickle.specs.declared.pickles.Pickle.{Pickle}
-use Rattle.gk_pickle.specs.Inherited.{Inherited, Filling, no_filling}
+use Rattle.gk_pickle.specs.Inheritance.{Inheritance, Filling, no_filling}
 use Rattle.gk_pickle.specs.Steps.{filled_by, pickle_steps}
 
 abbrev pub pickle_tag : Tag → PickleTag
 pickle_tag t = record { name = t.name; node = t.node }
 
 -- a scenario's pickle, with the tags of its examples and what fills it; tags aren't filled, and repeats are kept
-abbrev pub pickle_of : Inherited → Scenario → List Tag → Filling → Pickle
+abbrev pub pickle_of : Inheritance → Scenario → List Tag → Filling → Pickle
 pickle_of inherited s tags f = record {
   name = filled_by f s.name;
   nodes = s.node ∷ f.rows;
@@ -33,20 +33,20 @@ abbrev pub row_filling : Row → Row → Filling
 row_filling header row = record { header = header.cells; cells = row.cells; rows = row.node ∷ [] }
 
 -- one for each body row; a block without a table has none
-abbrev pub table_pickles : Inherited → Scenario → List Tag → Option ExampleTable → List Pickle
+abbrev pub table_pickles : Inheritance → Scenario → List Tag → Option ExampleTable → List Pickle
 table_pickles inherited s tags None = []
 table_pickles inherited s tags (Some table) =
     map (λ row. pickle_of inherited s tags (row_filling table.header row)) table.body
 
-abbrev pub examples_pickles : Inherited → Scenario → Examples → List Pickle
+abbrev pub examples_pickles : Inheritance → Scenario → Examples → List Pickle
 examples_pickles inherited s e = table_pickles inherited s e.tags e.table
 
 -- one without examples blocks, else those of each block
-abbrev pub outline_pickles : Inherited → Scenario → List Examples → List Pickle
+abbrev pub outline_pickles : Inheritance → Scenario → List Examples → List Pickle
 outline_pickles inherited s [] = pickle_of inherited s [] no_filling ∷ []
 outline_pickles inherited s (e ∷ es) = flat_map (examples_pickles inherited s) (e ∷ es)
 
-abbrev pub scenario_pickles : Inherited → Scenario → List Pickle
+abbrev pub scenario_pickles : Inheritance → Scenario → List Pickle
 scenario_pickles inherited s = outline_pickles inherited s s.examples
 
 abbrev pub background_steps : Option Background → List Step
@@ -54,10 +54,10 @@ background_steps None = []
 background_steps (Some b) = b.steps
 
 -- around a scenario that is in the feature itself, and around one in a rule
-abbrev pub in_feature : Feature → Inherited
+abbrev pub in_feature : Feature → Inheritance
 in_feature f = record { tags = f.tags; steps = background_steps f.background }
 
-abbrev pub in_rule : Feature → Rule → Inherited
+abbrev pub in_rule : Feature → Rule → Inheritance
 in_rule f r = record {
   tags = f.tags ++ r.tags;
   steps = background_steps f.background ++ background_steps r.background;

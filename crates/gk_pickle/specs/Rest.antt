@@ -9,7 +9,7 @@ use Rattle.gk_document.specs.declared.tree.Document.{Document}
 use Rattle.gk_pickle.specs.declared.pickles.Pickle.{Pickle}
 use Rattle.gk_pickle.specs.declared.pickles.PickleTitle.{PickleTitle}
 use Rattle.gk_pickle.specs.declared.next_pickles.PicklePlace.{PicklePlace}
-use Rattle.gk_pickle.specs.Inherited.{Inherited, no_filling}
+use Rattle.gk_pickle.specs.Inheritance.{Inheritance, no_filling}
 use Rattle.gk_pickle.specs.Pickles.{pickle_of, examples_pickles, scenario_pickles}
 use Rattle.gk_pickle.specs.InFeature.{ScenarioInFeature}
 use Rattle.gk_pickle.specs.Scenarios.{inherited_in}
@@ -28,24 +28,24 @@ own_scenarios f (Some r) = r.scenarios
 abbrev pub scenarios_at : Group → List Scenario
 scenarios_at g = own_scenarios g.feature g.rule
 
-abbrev pub inherited_at : Group → Inherited
+abbrev pub inherited_at : Group → Inheritance
 inherited_at g = inherited_in g.feature g.rule
 
 abbrev pub group_pickles : Group → List Pickle
 group_pickles g = flat_map (scenario_pickles (inherited_at g)) (scenarios_at g)
 
 -- those of blocks, but for the first rows of the first one
-abbrev pub from_row : Inherited → Scenario → List Examples → (row : ℕ) → List Pickle
+abbrev pub from_row : Inheritance → Scenario → List Examples → (row : ℕ) → List Pickle
 from_row inherited s [] row = []
 from_row inherited s (e ∷ es) row =
     drop row (examples_pickles inherited s e) ++ flat_map (examples_pickles inherited s) es
 
 -- those of a scenario, but for its first blocks, and the first rows of the next one; without blocks, but for the first ones
-abbrev pub of_outline : Inherited → Scenario → List Examples → (block row : ℕ) → List Pickle
+abbrev pub of_outline : Inheritance → Scenario → List Examples → (block row : ℕ) → List Pickle
 of_outline inherited s [] block row = drop row (pickle_of inherited s [] no_filling ∷ [])
 of_outline inherited s (e ∷ es) block row = from_row inherited s (drop block (e ∷ es)) row
 
-abbrev pub rest_of_scenario : Inherited → Scenario → (block row : ℕ) → List Pickle
+abbrev pub rest_of_scenario : Inheritance → Scenario → (block row : ℕ) → List Pickle
 rest_of_scenario inherited s block row = of_outline inherited s s.examples block row
 
 -- of a scenario in its feature: those of one of its blocks, those of some of its blocks, those of all, and its pickle without them
@@ -63,7 +63,7 @@ abbrev pub plain_pickle : ScenarioInFeature → List Pickle
 plain_pickle s = pickle_of (inherited_in s.feature s.rule) s.scenario [] no_filling ∷ []
 
 -- those of scenarios, the first from such a place on
-abbrev pub from_block : Inherited → List Scenario → (block row : ℕ) → List Pickle
+abbrev pub from_block : Inheritance → List Scenario → (block row : ℕ) → List Pickle
 from_block inherited [] block row = []
 from_block inherited (s ∷ ss) block row =
     rest_of_scenario inherited s block row ++ flat_map (scenario_pickles inherited) ss

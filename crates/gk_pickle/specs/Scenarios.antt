@@ -7,7 +7,7 @@ use Rattle.gk_document.specs.declared.tree.Rule.{Rule}
 use Rattle.gk_document.specs.declared.tree.Feature.{Feature}
 use Rattle.gk_document.specs.declared.tree.Document.{Document}
 use Rattle.gk_pickle.specs.declared.pickles.Pickle.{Pickle}
-use Rattle.gk_pickle.specs.Inherited.{Inherited}
+use Rattle.gk_pickle.specs.Inheritance.{Inheritance}
 use Rattle.gk_pickle.specs.InFeature.{ScenarioInFeature}
 use Rattle.gk_pickle.specs.Pickles.{in_feature, in_rule, scenario_pickles, pickles}
 
@@ -31,7 +31,7 @@ unfoldable pub scenarios_of : Document → List ScenarioInFeature
 scenarios_of d = scenarios_in d.feature
 
 -- what a scenario in a feature, or in a rule of it, inherits
-abbrev pub inherited_in : Feature → Option Rule → Inherited
+abbrev pub inherited_in : Feature → Option Rule → Inheritance
 inherited_in f None = in_feature f
 inherited_in f (Some r) = in_rule f r
 

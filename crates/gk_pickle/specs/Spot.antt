@@ -6,14 +6,14 @@ use Rattle.gk_document.specs.declared.tree.Scenario.{Scenario}
 use Rattle.gk_document.specs.declared.tree.Rule.{Rule}
 use Rattle.gk_document.specs.declared.tree.Feature.{Feature}
 use Rattle.gk_pickle.specs.declared.pickles.Pickle.{Pickle}
-use Rattle.gk_pickle.specs.Inherited.{Inherited, Filling, no_filling}
+use Rattle.gk_pickle.specs.Inheritance.{Inheritance, Filling, no_filling}
 use Rattle.gk_pickle.specs.InFeature.{ScenarioInFeature}
 use Rattle.gk_pickle.specs.Pickles.{pickle_of, row_filling}
 use Rattle.gk_pickle.specs.Scenarios.{inherited_in}
 
 -- a scenario, what it inherits, and the tags of its examples and what fills it
 pub record Spot : Type 0 where
-  pub inherited : Inherited
+  pub inherited : Inheritance
   pub scenario : Scenario
   pub tags : List Tag
   pub filling : Filling

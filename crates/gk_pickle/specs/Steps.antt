@@ -13,7 +13,7 @@ use Rattle.gk_pickle.specs.declared.pickles.StepType.TheVariants as kind
 use Rattle.gk_pickle.specs.declared.pickles.PickleArgument.{PickleArgument}
 use Rattle.gk_pickle.specs.declared.pickles.PickleArgument.TheVariants as value
 use Rattle.gk_pickle.specs.declared.pickles.PickleStep.{PickleStep}
-use Rattle.gk_pickle.specs.Inherited.{Filling, no_filling}
+use Rattle.gk_pickle.specs.Inheritance.{Filling, no_filling}
 use Rattle.gk_pickle.specs.Fill.{filled_text}
 
 -- a keyword's own type, which a conjunction (`And`, `But`) has not

@@ -11,9 +11,9 @@ ghost use Rattle.gk_pickle.specs.SinglePass.{nothing_read, with_open, raised_ope
 ghost use Rattle.std.specs.List.Sorted.{IsNonDecreasing};
 ghost use Rattle.std.specs.Str.{bytes_eq};
 ghost use Rattle.gk_pickle.specs.Columns.{columns_at};
-ghost use Rattle.gk_pickle.specs.Inherited.{no_filling};
+ghost use Rattle.gk_pickle.specs.Inheritance.{no_filling};
 
-use crate::pickles::{Inherited, PickleArgument, PickleDocString};
+use crate::pickles::{Inheritance, PickleArgument, PickleDocString};
 use gk_document::{Argument, Cell, DocString, Row, Sequence, Text, media_type};
 use indexmap::IndexMap;
 use memchr::memmem::Finder;
@@ -494,7 +494,7 @@ impl<'a> Columns<'a> {
 impl<'c, 'h, 'r> Model for Filling<'c, 'h, 'r> {
     ghost use Rattle.std.specs.Prelude.{[]};
     ghost use Rattle.std.specs.Option.{option_map_or, option_to_list};
-    ghost use Rattle.gk_pickle.specs.Inherited.{Filling as Filled};
+    ghost use Rattle.gk_pickle.specs.Inheritance.{Filling as Filled};
 
     ghost Value = { Filled };
 

@@ -8,7 +8,7 @@ ghost use Rattle.gk_pickle.specs.Spot.{spot_of, spot_pickle};
 ghost use Rattle.gk_document.specs.declared.tree.Document.{Document as SomeDocument};
 
 use crate::filling::{Columns, Filling};
-use crate::pickles::{Inherited, Pickle, PickleTitle, ScenarioInFeature, make_pickle, title};
+use crate::pickles::{Inheritance, Pickle, PickleTitle, ScenarioInFeature, make_pickle, title};
 use gk_document::{Document, Examples, Feature, Row, Rule, Scenario, Tag};
 use std::alloc::{AllocError, Global};
 use std::hash::RandomState;
@@ -60,7 +60,7 @@ impl<'a> PickleSpot<'a> {
     pub(crate) fn pickle(&self, alloc: Global, seed: RandomState) -> Result<Pickle, AllocError>
         ensures { IfOk result (λ p. p ≡ spot_pickle self.now) }
     {
-        let inherited = Inherited::of(&self.scenario);
+        let inherited = Inheritance::of(&self.scenario);
         let scenario = self.scenario.scenario;
         match self.row {
             Some((header, row)) => {

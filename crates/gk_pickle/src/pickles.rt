@@ -19,7 +19,7 @@ use std::marker::Model;
 fn add_rows(
     alloc: Global,
     seed: RandomState,
-    inherited: &Inherited<'_>,
+    inherited: &Inheritance<'_>,
     scenario: &Scenario,
     tags: &[Tag],
     table: &ExampleTable,
@@ -39,7 +39,7 @@ fn add_rows(
 /// Adds a pickle for each of these rows, under the columns of their header.
 fn add_pickles_of_rows(
     alloc: Global,
-    inherited: &Inherited<'_>,
+    inherited: &Inheritance<'_>,
     scenario: &Scenario,
     tags: &[Tag],
     columns: &Columns<'_>,
@@ -62,7 +62,7 @@ fn add_pickles_of_rows(
 fn add_table(
     alloc: Global,
     seed: RandomState,
-    inherited: &Inherited<'_>,
+    inherited: &Inheritance<'_>,
     scenario: &Scenario,
     tags: &[Tag],
     table: &Option<ExampleTable>,
@@ -82,7 +82,7 @@ fn add_table(
 fn add_scenario(
     alloc: Global,
     seed: RandomState,
-    inherited: &Inherited<'_>,
+    inherited: &Inheritance<'_>,
     scenario: &Scenario,
     made: &mut Vec<Pickle>,
 ) -> Result<(), AllocError>
@@ -122,7 +122,7 @@ fn add_pickles(
     add_scenario(
         alloc,
         seed,
-        &Inherited::of(scenario),
+        &Inheritance::of(scenario),
         scenario.scenario,
         made,
     )
@@ -186,7 +186,7 @@ fn add_tags(alloc: Global, tags: &[Tag], made: &mut Vec<PickleTag>) -> Result<()
 /// What a pickle takes of the tags of its feature, rule, scenario and examples block.
 fn pickle_tags(
     alloc: Global,
-    inherited: &Inherited<'_>,
+    inherited: &Inheritance<'_>,
     scenario_tags: &[Tag],
     block_tags: &[Tag],
 ) -> Result<Sequence<PickleTag>, AllocError>
@@ -205,7 +205,7 @@ fn pickle_tags(
 /// A scenario's pickle, with the tags of its examples and what fills it.
 pub(crate) fn make_pickle(
     alloc: Global,
-    inherited: &Inherited<'_>,
+    inherited: &Inheritance<'_>,
     scenario: &Scenario,
     tags: &[Tag],
     filling: &Filling<'_, '_, '_>,
@@ -294,16 +294,16 @@ pub fn scenarios<'a>(
 
 /// The tags of the feature and the rule, and the steps of their backgrounds.
 #[derive(Drop)]
-pub(crate) struct Inherited<'a> {
+pub(crate) struct Inheritance<'a> {
     pub feature_tags: &'a [Tag],
     pub rule_tags: &'a [Tag],
     pub feature_steps: &'a [Step],
     pub rule_steps: &'a [Step],
 }
 
-impl<'a> Model for Inherited<'a> {
+impl<'a> Model for Inheritance<'a> {
     ghost use Rattle.std.specs.Prelude.{◌++◌};
-    ghost use Rattle.gk_pickle.specs.Inherited.{Inherited as InheritedParts};
+    ghost use Rattle.gk_pickle.specs.Inheritance.{Inheritance as InheritedParts};
 
     ghost Value = { InheritedParts };
 
@@ -313,12 +313,12 @@ impl<'a> Model for Inherited<'a> {
     } };
 }
 
-impl<'a> Inherited<'a> {
+impl<'a> Inheritance<'a> {
     /// Of a scenario that is in the feature itself.
-    fn in_feature(feature: &'a Feature) -> Inherited<'a>
+    fn in_feature(feature: &'a Feature) -> Inheritance<'a>
         ensures { result ≡ in_feature feature.now }
     {
-        Inherited {
+        Inheritance {
             feature_tags: feature.tags.as_slice(),
             rule_tags: &[],
             feature_steps: steps_of(&feature.background),
@@ -327,10 +327,10 @@ impl<'a> Inherited<'a> {
     }
 
     /// Of a scenario that is in a rule.
-    fn in_rule(feature: &'a Feature, rule: &'a Rule) -> Inherited<'a>
+    fn in_rule(feature: &'a Feature, rule: &'a Rule) -> Inheritance<'a>
         ensures { result ≡ in_rule feature.now rule.now }
     {
-        Inherited {
+        Inheritance {
             feature_tags: feature.tags.as_slice(),
             rule_tags: rule.tags.as_slice(),
             feature_steps: steps_of(&feature.background),
@@ -339,12 +339,12 @@ impl<'a> Inherited<'a> {
     }
 
     /// Of a scenario.
-    pub(crate) fn of(scenario: &ScenarioInFeature<'a>) -> Inherited<'a>
+    pub(crate) fn of(scenario: &ScenarioInFeature<'a>) -> Inheritance<'a>
         ensures { result ≡ inherited_in scenario.now.feature scenario.now.rule }
     {
         match scenario.rule {
-            Some(rule) => Inherited::in_rule(scenario.feature, rule),
-            None => Inherited::in_feature(scenario.feature),
+            Some(rule) => Inheritance::in_rule(scenario.feature, rule),
+            None => Inheritance::in_feature(scenario.feature),
         }
     }
 }

@@ -8,7 +8,7 @@ use Rattle.gk_grammar.specs.Token.{Utf8, Step, Row, Line, line}
 use Rattle.gk_grammar.specs.Tree as tree
 use Rattle.gk_grammar.specs.Tree.{Location, Tag, Argument, Background, ExampleTable, Examples, Scenario, Rule, Feature}
 use Rattle.gk_document.specs.declared.tree.Argument.TheVariants.{Table, Text as Quoted}
-use Rattle.gk_grammar.specs.Grammar.{Piece, Then, Each, AtMostOne, OneLine, IsPlainGap, IsEnglish, IsTagLine, TagLines, Titled, IsRow, IsTable, IsArgument, IsStep, IsStepLine, IsExampleTable, IsExamples, IsScenario, IsBackground, IsRule, IsFeature, IsOpening, english}
+use Rattle.gk_grammar.specs.Grammar.{Piece, Then, Each, AtMostOne, OneLine, IsPlainGap, IsEnglish, IsTagLine, TagLines, TitleAndDescription, IsRow, IsTable, IsArgument, IsStep, IsStepLine, IsExampleTable, IsExamples, IsScenario, IsBackground, IsRule, IsFeature, IsOpening, english}
 use Rattle.gk_plain.specs.declared.plain.Kind.TheVariants as kind
 use Rattle.gk_plain.specs.declared.plain.Part.{Part}
 use Rattle.gk_plain.specs.declared.plain.Part.TheVariants as part
@@ -125,20 +125,20 @@ cut_both P Q R make f ls c = (
 full_line : (P : Line → Type 0) → IsFull (OneLine P)
 full_line P cs h = h
 
-full_titled : (b : Block) (p : Location) (k m d : Utf8) → IsFull (Titled b p k m d)
+full_titled : (b : Block) (p : Location) (k m d : Utf8) → IsFull (TitleAndDescription b p k m d)
 full_titled b p k m d cs h = h
 
 full_step : (s : tree.Step) → IsFull (IsStep s)
 full_step s = full_first (OneLine (IsStepLine s)) (AtMostOne IsArgument s.argument) (full_line (IsStepLine s))
 
 full_examples : (e : Examples) → IsFull (IsExamples e)
-full_examples e = full_second (TagLines e.tags) _ (full_first (Titled block.Examples e.location e.keyword e.name e.description) (AtMostOne IsExampleTable e.table) (full_titled block.Examples e.location e.keyword e.name e.description))
+full_examples e = full_second (TagLines e.tags) _ (full_first (TitleAndDescription block.Examples e.location e.keyword e.name e.description) (AtMostOne IsExampleTable e.table) (full_titled block.Examples e.location e.keyword e.name e.description))
 
 full_scenario : (s : Scenario) → IsFull (IsScenario s)
-full_scenario s = full_second (TagLines s.tags) _ (full_first (Titled block.Scenario s.location s.keyword s.name s.description) _ (full_titled block.Scenario s.location s.keyword s.name s.description))
+full_scenario s = full_second (TagLines s.tags) _ (full_first (TitleAndDescription block.Scenario s.location s.keyword s.name s.description) _ (full_titled block.Scenario s.location s.keyword s.name s.description))
 
 full_rule : (r : Rule) → IsFull (IsRule r)
-full_rule r = full_second (TagLines r.tags) _ (full_first (Titled block.Rule r.location r.keyword r.name r.description) _ (full_titled block.Rule r.location r.keyword r.name r.description))
+full_rule r = full_second (TagLines r.tags) _ (full_first (TitleAndDescription block.Rule r.location r.keyword r.name r.description) _ (full_titled block.Rule r.location r.keyword r.name r.description))
 
 -- ---- tag lines
 

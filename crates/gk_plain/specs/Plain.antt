@@ -6,7 +6,7 @@ use Rattle.gk_grammar.specs.Token.{Utf8, Token, Blank, Comment, Language, Tags, 
 use Rattle.gk_grammar.specs.Tree as tree
 use Rattle.gk_grammar.specs.Tree.{Location, Argument, Background, ExampleTable, Examples, Scenario, Rule, Feature}
 use Rattle.gk_grammar.specs.Machine.{same_text}
-use Rattle.gk_grammar.specs.Grammar.{Piece, ◌⨾◌, Each, AtMostOne, OneLine, IsPlainGap, IsEnglish, IsTagLine, TagLines, Titled, IsRow, IsTable, IsDocString, IsArgument, IsStepLine, IsStep, IsExampleTable, IsExamples, IsScenario, IsBackground, IsRule, IsFeature, IsOpening, english}
+use Rattle.gk_grammar.specs.Grammar.{Piece, ◌⨾◌, Each, AtMostOne, OneLine, IsPlainGap, IsEnglish, IsTagLine, TagLines, TitleAndDescription, IsRow, IsTable, IsDocString, IsArgument, IsStepLine, IsStep, IsExampleTable, IsExamples, IsScenario, IsBackground, IsRule, IsFeature, IsOpening, english}
 use Rattle.gk_plain.specs.declared.plain.Kind.{Kind}
 use Rattle.gk_plain.specs.declared.plain.Kind.TheVariants as kind
 use Rattle.gk_plain.specs.declared.plain.Part.{Part}
@@ -44,7 +44,7 @@ abbrev pub Heading : Type 0
 Heading = Location × Utf8 × Utf8 × Utf8
 
 abbrev pub IsHeading : Block → Heading → Piece
-IsHeading b h = Titled b h.0 h.1 h.2 h.3
+IsHeading b h = TitleAndDescription b h.0 h.1 h.2 h.3
 
 -- a row of so many cells
 abbrev pub IsRowOf : ℕ → tree.Row → Piece

@@ -5,7 +5,7 @@ use Rattle.cm_audit_release.specs.PartAudit.{IsPartAuditOf}
 use Rattle.cm_audit_release.specs.ReleaseAudit.{IsReleaseAuditOf}
 use Rattle.ck_command_line.specs.CommandLine.{ask_gate}
 use Rattle.ck_commands.specs.Output.{Report}
-use Rattle.ck_commands.specs.Run.{Reported}
+use Rattle.ck_commands.specs.Run.{IsReportOf}
 use Rattle.ck_commands.proofs.GatePrinted.{gate_is_reported}
 use Rattle.ck_commands.proofs.JudgedLemmas.{counts_given, judged_done}
 use Rattle.ck_commands.proofs.command_gate.judge_opened_run.Goals as goal
@@ -23,7 +23,7 @@ returns g c =
     let same = c.with_gate_counts.ensures.report in
     let alone = reads_weaker {P = IsPartAuditOf c.args.settings asked old new answer} {Q = IsReleaseAuditOf c.args.settings asked answer} before after audit.same_bytes (λ xs ys p. p.release) in
     record {
-      reported = subst (λ (r : Report). Reported (ask_gate c.args.settings asked) r before after) (sym same)
+      reported = subst (λ (r : Report). IsReportOf (ask_gate c.args.settings asked) r before after) (sym same)
           (gate_is_reported c.args.settings asked answer report before after c.gate_report_of-report.ensures alone audit.at_end audit.failures);
       texts = audit.texts;
       done = λ done.

@@ -4,7 +4,7 @@ use Rattle.cm_refs.specs.Declarations.{Declarations}
 use Rattle.cm_attempt.specs.Table.{has_text}
 use Rattle.cm_audit.specs.State.{summary_of}
 use Rattle.cm_stream.specs.Texts.{Utf8}
-use Rattle.cm_fault_reasons.specs.Unknown.{Told, told_uri}
+use Rattle.cm_fault_reasons.specs.Unknown.{ToldName, told_uri}
 use Rattle.cm_fault_reasons.proofs.UnknownLemmas.{pickle_told, source_known}
 use Rattle.cm_fault_reasons.proofs.unknown.unknown_of_pickle.Goals as goal
 
@@ -24,4 +24,4 @@ returns c =
     let yes : true ≡ has_text uri s.declared.sources = sym c.if-not-has_source.false ∙ c.is_some-has_source.ensures ∙ known ∙ ap (λ (t : Utf8). has_text t s.declared.sources) c.as_str-uri.ensures in
     let same = ap (λ (d : Declarations). has_text c.as_str-uri.result.now d.documents) c.declared.ensures in
     let document = c.has_document.ensures ∙ same ∙ ap (λ (t : Utf8). has_text t s.declared.documents) c.as_str-uri.ensures in
-    c.uri_unless-2.ensures ∙ ap (λ (t : Utf8). let o : Option Told = if c.has_document.result then None else Some (told_uri t) in o) c.as_str-uri.ensures ∙ pickle_told s uri true c.has_document.result yes document
+    c.uri_unless-2.ensures ∙ ap (λ (t : Utf8). let o : Option ToldName = if c.has_document.result then None else Some (told_uri t) in o) c.as_str-uri.ensures ∙ pickle_told s uri true c.has_document.result yes document

@@ -5,7 +5,7 @@ use Rattle.gk_document.specs.declared.tree.Tag.{Tag}
 use Rattle.gk_document.specs.declared.tree.Step.{Step}
 
 -- the tags of the feature and the rule, and the steps of their backgrounds
-pub record Inherited : Type 0 where
+pub record Inheritance : Type 0 where
   pub tags : List Tag
   pub steps : List Step
 
