@@ -54,9 +54,11 @@ pub not_followed : (follows : List Envelope → Type 0) (settings : Settings) (o
     → UnlessNoMemory (Err why) ((es : List Envelope) → follows es → follows (es ++ envelope_in (judged_line settings old line)))
 not_followed follows settings old line filled fault h why e = rw (filled, e) (followed_unread follows settings (summary_of old) fault (envelope_of_line line) h)
 
-found : (settings : Settings) (old new : State) (n : ℕ) (r : Option (Result Envelope LineFault)) (more : Summary → Answer) (why : Stop) → TakesLine settings old new r (Err why)
+found : (settings : Settings) (old new : State) (n : ℕ) (r : Option (Result Envelope LineFault)) (more : Summary → Answer) (why : Stop) → UnlessNoMemory (Err why) (TakesLine settings old new r (Err why))
     → AnswersAs (answer_of_line settings (summary_of old) n r more) (audited_at n why)
-found settings old new n None more why k = absurd k
+found settings old new n None more (stop.Bad f) k = absurd k
+found settings old new n None more (stop.Unsupported r) k = absurd k
+found settings old new n None more stop.Memory k = tt
 found settings old new n (Some (Err b)) more (stop.Bad f) k = let told = k.0 in let same : IsBad (NoEnvelope b) ≡ IsBad (stream_fault_named f) = cc in ap (Found n) (sym same)
 found settings old new n (Some (Err b)) more (stop.Unsupported r) k = cc
 found settings old new n (Some (Err b)) more stop.Memory k = tt
@@ -116,7 +118,7 @@ module _ {W : Type 0} (follows : W → List Envelope → Type 0) where
     -- ---- a line that stops it
 
     pub stops_at : (new : Judging W) (answer : Result Audited Trouble) (bytes rest : List ℕ) (h : StopsAtLine (JudgesLine follows) first new answer bytes rest)
-        → TakesLine first.settings h.last.state new.state (judged_line first.settings h.last.state h.line) (Err h.why) → JudgesAs first.settings (audited_at (length h.before + 1) h.why) bytes rest
+        → UnlessNoMemory (Err h.why) (TakesLine first.settings h.last.state new.state (judged_line first.settings h.last.state h.line) (Err h.why)) → JudgesAs first.settings (audited_at (length h.before + 1) h.why) bytes rest
     stops_at new answer bytes rest h k =
         let n = length h.before + 1 in
         let left : answer_of_bytes first.settings bytes ≡ answer_of_lines first.settings (summary_of h.last.state) n (h.line ∷ h.after) (feed_of bytes).trouble = judged_after h.last bytes h.before (h.line ∷ h.after) (feed_of bytes).trouble h.cut refl h.taken in

@@ -1,6 +1,6 @@
 -- What goes along with an audit is what it has to be after the stream's envelopes, and at the line that has a fault.
 use Rattle.std.proofs.Common.{◌≡◌, ℕ, ◌+◌, refl, sym, ap, ◌∙◌, subst, List, [], ◌∷◌, ◌++◌, Option, Some, None, Result, Ok, Err, Bool, true, false, inl, inr, append-nil, append_assoc, length, map, arith, ◌<◌}
-use Rattle.std.specs.Prelude.{IfSome, ⊤}
+use Rattle.std.specs.Prelude.{IfOk, IfSome, ⊤}
 use Rattle.std.proofs.lemmas.List.{length-append}
 use Rattle.cm_envelope.specs.Device.{Input, OfReads}
 use Rattle.cm_envelope.specs.Feeds.{is_failed_read}
@@ -35,11 +35,11 @@ use Rattle.cm_state.proofs.Checked.{findings_are_faults}
 use Rattle.cm_state.proofs.Judged.{judged_is_told, none_yet, one_more_line, same_line}
 use Rattle.cm_state.proofs.Steps.{summaries_step}
 use Rattle.cm_audit.specs.Audit.{AnswersAs, GoodAtEnd, IsAuditOf, TakesLine, audited_at, judged_line, unsuccessful}
-use Rattle.cm_audit.specs.Judging.{DecidesAnswer, FollowsAnswer, JudgesLine, JudgesWith, ReadsAgain, UnlessNoMemory, answer_of_bytes}
+use Rattle.cm_audit.specs.Judging.{DecidesAnswer, FollowsAnswer, JudgesLine, JudgesWith, RereadsLast, RereadsLine, UnlessNoMemory, answer_of_bytes}
 use Rattle.cm_audit.specs.Taking.{StopsAtLine, TakesEach, TakesStream}
 use Rattle.cm_stream.specs.OnePass.{reads}
 use Rattle.cm_stream.proofs.OnePass.{is_read as reads_by_the_grammar}
-use Rattle.cm_audit.specs.Watched.{IsDecidedAt, IsFollowed, IsWatchedAuditOf, audit_in, envelope_in, envelopes_in, is_of_envelope, judged_in, with_watch}
+use Rattle.cm_audit.specs.Watched.{HasLast, IsDecidedAt, IsFollowed, IsWatchedAuditOf, audit_in, envelope_in, envelopes_in, is_of_envelope, judged_in, with_watch}
 use Rattle.cm_audit.specs.State.{summary_of}
 use Rattle.cm_audit.specs.declared.auditing.Judging.{Judging}
 use Rattle.cm_audit.specs.declared.auditing.WatchedAudit.{WatchedAudit}
@@ -208,22 +208,61 @@ module _ {W : Type 0} (follows : W → List Envelope → Type 0) (first : Judgin
   within : (before after : List (List ℕ)) (line : List ℕ) (lines : List (List ℕ)) → lines ≡ before ++ line ∷ after → length lines < length before + 1 → ⊥
   within before after line lines cut less = let count = ap length cut ∙ length-append before (line ∷ after) in omega (arith, count, less)
 
+  -- what was read once more is the envelope of the line
+  read_so : (is_wanted : Bool) (last : Option Envelope) (line : List ℕ) → RereadsLine is_wanted last line → IfSome last (λ e. envelope_of_line line ≡ Ok e)
+  read_so true (Some e) line again = again
+  read_so true None line again = tt
+  read_so false (Some e) line again = cc
+  read_so false None line again = tt
+
   decided_by : (new : Judging W) (answer : Result Audited Trouble) (xs zs : List ℕ) (h : StopsAtLine (JudgesLine follows) first new answer xs zs) (why : Stop)
-      → TakesLine first.settings h.last.state new.state (judged_line first.settings h.last.state h.line) (Err why)
+      → UnlessNoMemory (Err why) (TakesLine first.settings h.last.state new.state (judged_line first.settings h.last.state h.line) (Err why))
       → UnlessNoMemory (Err why) ((es : List Envelope) → follows h.last.watch es → follows new.watch (es ++ envelope_in (judged_line first.settings h.last.state h.line)))
-      → ReadsAgain new.last h.line (Err why) → DecidesAnswer first.settings (follows new.watch) new.last (summary_of new.state) xs (audited_at (length h.before + 1) why)
+      → RereadsLast h.last.wants_last new.last h.line (Err why) → DecidesAnswer first.settings (follows new.watch) new.last (summary_of new.state) xs (audited_at (length h.before + 1) why)
   decided_by new answer xs zs h (stop.Bad b) k goes again = (
-    λ some. decided_at new answer xs zs h (stop.Bad b) (IsBad (stream_fault_named b)) (λ s. summary_of new.state ≡ s) (λ x t. t) (λ fault t. not_of_envelope b fault t.0 some) k goes new.last again,
+    λ some. decided_at new answer xs zs h (stop.Bad b) (IsBad (stream_fault_named b)) (λ s. summary_of new.state ≡ s) (λ x t. t) (λ fault t. not_of_envelope b fault t.0 some) k goes new.last (read_so h.last.wants_last new.last h.line again),
     λ less. absurd (within h.before h.after h.line (feed_of xs).lines h.cut less),
   )
   decided_by new answer xs zs h (stop.Unsupported r) k goes again =
-      decided_at new answer xs zs h (stop.Unsupported r) (IsUnsupported r) (λ s. ⊤) (λ x t. (t, tt)) (λ fault t. cc) k goes new.last again
+      decided_at new answer xs zs h (stop.Unsupported r) (IsUnsupported r) (λ s. ⊤) (λ x t. (t, tt)) (λ fault t. cc) k goes new.last (read_so h.last.wants_last new.last h.line again)
   decided_by new answer xs zs h stop.Memory k goes again = tt
+
+  -- a line that was read once more, and is none, has no fault of an envelope
+  lacks_none : (old new : State) (line : List ℕ) (why : Stop) (fault : LineFault) → envelope_of_line line ≡ Err fault → TakesLine first.settings old new (judged_line first.settings old line) (Err why) → TakesLine first.settings old new (Some (Err fault)) (Err why)
+  lacks_none old new line why fault is k = go (is_blank line) refl
+    where
+      go : (b : Bool) → is_blank line ≡ b → TakesLine first.settings old new (Some (Err fault)) (Err why)
+      go true blank = absurd (rw blank at k)
+      go false blank = rw (blank, is) at k
+
+  -- the envelope of the line that stops it is there, where that is wanted
+  has_last : (n : ℕ) (old new : State) (line : List ℕ) (last : Option Envelope) (why : Stop) → UnlessNoMemory (Err why) (TakesLine first.settings old new (judged_line first.settings old line) (Err why)) → RereadsLast true last line (Err why)
+      → IfOk (audited_at n why) (λ (a : Audited). HasLast last a.verdict)
+  has_last n old new line (Some e) (stop.Bad b) k again = λ some. refl
+  has_last n old new line None (stop.Bad b) k again = λ some. absurd (not_of_envelope b again.0 (lacks_none old new line (stop.Bad b) again.0 again.1 k).0 some)
+  has_last n old new line (Some e) (stop.Unsupported r) k again = refl
+  has_last n old new line None (stop.Unsupported r) k again = let no = lacks_none old new line (stop.Unsupported r) again.0 again.1 k in absurd cc
+  has_last n old new line last stop.Memory k again = tt
+
+  same_wants : (old new : Judging W) (lines : List (List ℕ)) → TakesEach (JudgesLine follows) old lines new → new.wants_last ≡ old.wants_last
+  same_wants old new [] h = ap (λ (j : Judging W). j.wants_last) h
+  same_wants old new (l ∷ ls) h = same_wants h.0 new ls h.2 ∙ h.1.wants_last
+
+  last_there : (new : Judging W) (answer : Result Audited Trouble) (xs zs : List ℕ) → first.wants_last ≡ true → TakesStream (JudgesLine follows) first new (Err answer) xs zs → IfOk answer (λ (a : Audited). HasLast new.last a.verdict)
+  last_there new answer xs zs wants (inl h) =
+      let own : h.last.settings ≡ first.settings = same_settings follows first h.last h.before h.taken in
+      let k = subst (λ (s : Settings). UnlessNoMemory (let stopped : Result ⊤ Stop = Err h.why in stopped) (TakesLine s h.last.state new.state (judged_line s h.last.state h.line) (Err h.why))) own h.stopped.taken in
+      let again = subst (λ (b : Bool). RereadsLast b new.last h.line (Err h.why)) (same_wants first h.last h.before h.taken ∙ wants) h.stopped.again in
+      subst (λ (a : Result Audited Trouble). IfOk a (λ (x : Audited). HasLast new.last x.verdict)) (sym h.answers) (has_last (length h.before + 1) h.last.state new.state h.line new.last h.why k again)
+  last_there new answer xs zs wants (inr h) = subst (λ (a : Result Audited Trouble). IfOk a (λ (x : Audited). HasLast new.last x.verdict)) (sym h.1) tt
+
+  pub last_is_there : (new : Judging W) (answer : Result Audited Trouble) (a c : Input) → OfReads a c (TakesStream (JudgesLine follows) first new (Err answer)) → first.wants_last ≡ true → IfOk answer (λ (x : Audited). HasLast new.last x.verdict)
+  last_is_there new answer a c p wants = last_there new answer (p.0 ++ []) [] wants (p.2 [] (λ over. refl))
 
   stops_with : (new : Judging W) (answer : Result Audited Trouble) (xs zs : List ℕ) → StopsAtLine (JudgesLine follows) first new answer xs zs → JudgesWith first.settings (follows new.watch) new.last (summary_of new.state) answer xs zs
   stops_with new answer xs zs h =
       let own : h.last.settings ≡ first.settings = same_settings follows first h.last h.before h.taken in
-      let k : TakesLine first.settings h.last.state new.state (judged_line first.settings h.last.state h.line) (Err h.why) = subst (λ (s : Settings). TakesLine s h.last.state new.state (judged_line s h.last.state h.line) (Err h.why)) own h.stopped.taken in
+      let k = subst (λ (s : Settings). UnlessNoMemory (let stopped : Result ⊤ Stop = Err h.why in stopped) (TakesLine s h.last.state new.state (judged_line s h.last.state h.line) (Err h.why))) own h.stopped.taken in
       let goes = subst (λ (s : Settings). UnlessNoMemory (let stopped : Result ⊤ Stop = Err h.why in stopped) ((es : List Envelope) → follows h.last.watch es → follows new.watch (es ++ envelope_in (judged_line s h.last.state h.line)))) own h.stopped.followed in
       subst (λ (a : Result Audited Trouble). JudgesWith first.settings (follows new.watch) new.last (summary_of new.state) a xs zs) (sym h.answers)
       (record {
@@ -327,3 +366,9 @@ failed_with (Err ReadFailed) watch last state = refl
 failed_with (Err LineTooLong) watch last state = refl
 failed_with (Err StreamTooLong) watch last state = refl
 failed_with (Err Memory) watch last state = refl
+
+-- the last envelope is there after the audit with its watch
+pub last_with : {W : Type 0} (answer : Result Audited Trouble) (watch : W) (last : Option Envelope) (state : State) → IfOk answer (λ (a : Audited). HasLast last a.verdict)
+    → IfOk (with_watch watch last state answer) (λ (w : WatchedAudit W). HasLast w.last w.audited.verdict)
+last_with (Ok a) watch last state has = has
+last_with (Err t) watch last state has = tt

@@ -1,8 +1,8 @@
 -- The answer line by line.
-use Rattle.std.specs.Prelude.{◌≡◌, ⊤, ℕ, List, ◌++◌, Option, Some, IfSome, Result, Ok, Err, length}
+use Rattle.std.specs.Prelude.{◌≡◌, ⊤, ℕ, Bool, true, false, List, ◌++◌, Option, Some, None, Result, Ok, Err, length}
 use Rattle.cm_envelope.specs.Lines.{Line, max_line_bytes, max_stream_bytes}
 use Rattle.cm_envelope.specs.Feeds.{ShowNothing}
-use Rattle.cm_envelope.specs.Reading.{envelope_of_line}
+use Rattle.cm_envelope.specs.Reading.{LineFault, envelope_of_line}
 use Rattle.cm_envelope.specs.declared.envelope.Envelope.{Envelope}
 use Rattle.cm_envelope.specs.declared.feed.Trouble.{Trouble}
 use Rattle.cm_envelope.specs.declared.feed.Trouble.TheVariants.{ReadFailed}
@@ -49,20 +49,30 @@ abbrev pub UnlessNoMemory : Result ⊤ Stop → Type 0 → Type 0
 UnlessNoMemory (Err stop.Memory) P = ⊤
 UnlessNoMemory result P = P
 
--- what was read once more is the envelope of a line that stops the audit
-abbrev pub ReadsAgain : Option Envelope → List ℕ → Result ⊤ Stop → Type 0
-ReadsAgain last line (Ok done) = ⊤
-ReadsAgain last line (Err why) = IfSome last (λ e. envelope_of_line line ≡ Ok e)
+-- a line was read once more where that is wanted: its envelope, or that it has none
+abbrev pub RereadsLine : (is_wanted : Bool) → (last : Option Envelope) → List ℕ → Type 0
+RereadsLine true (Some e) line = envelope_of_line line ≡ Ok e
+RereadsLine true None line = (fault : LineFault) × (envelope_of_line line ≡ Err fault)
+RereadsLine false last line = last ≡ None
 
--- What an audit with a watch makes of a line: it is judged, and the watch is told of its envelope.
+-- that, of a line that stops the audit
+abbrev pub RereadsLast : (is_wanted : Bool) → (last : Option Envelope) → List ℕ → Result ⊤ Stop
+    → Type 0
+RereadsLast is_wanted last line (Ok done) = ⊤
+RereadsLast is_wanted last line (Err stop.Memory) = ⊤
+RereadsLast is_wanted last line (Err why) = RereadsLine is_wanted last line
+
+-- What an audit with a watch makes of a line: it is judged, the watch is told of its envelope, and a line that stops it is read
+-- once more.
 pub record JudgesLine {W : Type 0} (follows : W → List Envelope → Type 0) (old : Judging W)
     (line : List ℕ) (result : Result ⊤ Stop) (new : Judging W) : Type 0 where
   pub settings : new.settings ≡ old.settings
-  pub taken : TakesLine old.settings old.state new.state
-      (judged_line old.settings old.state line) result
+  pub wants_last : new.wants_last ≡ old.wants_last
+  pub taken : UnlessNoMemory result (TakesLine old.settings old.state new.state
+      (judged_line old.settings old.state line) result)
   pub followed : UnlessNoMemory result ((es : List Envelope) → follows old.watch es
       → follows new.watch (es ++ envelope_in (judged_line old.settings old.state line)))
-  pub again : ReadsAgain new.last line result
+  pub again : RereadsLast old.wants_last new.last line result
 
 -- `IsFollowed`, where the answer is Good
 abbrev pub FollowsAnswer : Settings → (List Envelope → Type 0) → Table → List ℕ

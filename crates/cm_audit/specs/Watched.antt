@@ -1,5 +1,5 @@
 -- What a watch is after an audit: of a good stream, and up to the line that decides.
-use Rattle.std.specs.Prelude.{◌≡◌, ◌<◌, ◌+◌, ⊤, ℕ, Bool, true, false, List, [], ◌∷◌, ◌++◌, Option, None, Some, IfSome, Result, Ok, Err, length}
+use Rattle.std.specs.Prelude.{◌≡◌, ◌<◌, ◌+◌, ⊤, ℕ, Bool, true, false, List, [], ◌∷◌, ◌++◌, Option, None, Some, IfSome, IsSome, Result, Ok, Err, length}
 use Rattle.std.specs.List.{flat_map}
 use Rattle.cm_envelope.specs.Reading.{LineFault}
 use Rattle.cm_envelope.specs.declared.envelope.Envelope.{Envelope}
@@ -121,7 +121,13 @@ DecidesVerdict settings follows last kept bytes (verdict.Unsupported n r) =
     IfSome last (IsDecidedAt settings follows (λ s. ⊤) bytes n (IsUnsupported r))
 DecidesVerdict settings follows last kept bytes (verdict.Good counts) = ⊤
 
--- that, of the watch, the last envelope and what is kept, where the answer is a verdict
+-- the envelope of the line that decides is there, where that line has one
+abbrev pub HasLast : (last : Option Envelope) → Verdict → Type 0
+HasLast last (verdict.Good counts) = ⊤
+HasLast last (verdict.Bad n b) = is_of_envelope b ≡ true → IsSome last
+HasLast last (verdict.Unsupported n r) = IsSome last
+
+-- `DecidesVerdict`, of the watch, the last envelope and what is kept, where the answer is a verdict
 abbrev pub DecidesWatched : {W : Type 0} → Settings → (follows : W → List Envelope → Type 0)
     → List ℕ → Result (WatchedAudit W) Trouble → Type 0
 DecidesWatched settings follows bytes (Ok w) =

@@ -1,5 +1,5 @@
 //! The audit of a stream: the loop over its lines, and who watches it.
-ghost use Rattle.std.specs.Prelude.{◌≡◌, ◌+◌, ◌++◌, ◌∷◌, [], List, Ok, Err, IfSome, ◌≤◌, OnOk, IfOk, Bool, false, true, ⊤};
+ghost use Rattle.std.specs.Prelude.{◌≡◌, ◌+◌, ◌++◌, ◌∷◌, [], List, Ok, Err, ◌≤◌, OnOk, IfOk, Bool, false, true, ⊤};
 ghost use Rattle.cm_envelope.specs.Device.{CountsFailure, OfInput, OfReads};
 ghost use Rattle.cm_envelope.specs.declared.envelope.Envelope.{Envelope as SomeEnvelope};
 ghost use Rattle.cm_envelope.specs.declared.feed.Trouble.TheVariants.{ReadFailed};
@@ -8,9 +8,8 @@ ghost use Rattle.cm_stream.specs.Stream.{NoneIsGood, verdict_in};
 ghost use Rattle.cm_audit.specs.Audit.{AnswersTold, Audits, DecidesGood, GoodAtEnd, GoodHeard, IsVerdictOf, ReadsUpTo, ShowNoFault};
 ghost use Rattle.cm_audit.specs.Audit.{ShowsUnsupported, TakesLine, judged_line, audited_at, unsuccessful};
 ghost use Rattle.cm_envelope.specs.Feeds.{is_failed_read};
-ghost use Rattle.cm_envelope.specs.Reading.{envelope_of_line};
-ghost use Rattle.cm_audit.specs.Judging.{JudgesLine, JudgesWith, ReadsAgain, UnlessNoMemory};
-ghost use Rattle.cm_audit.specs.Watched.{IsWatchedAuditOf, audit_in, envelope_in, with_watch};
+ghost use Rattle.cm_audit.specs.Judging.{JudgesLine, JudgesWith, RereadsLine, UnlessNoMemory};
+ghost use Rattle.cm_audit.specs.Watched.{HasLast, IsWatchedAuditOf, audit_in, envelope_in, with_watch};
 ghost use Rattle.cm_audit.specs.State.{Takes, summary_of};
 ghost use Rattle.cm_state.specs.Summary.{empty_summary};
 ghost use Rattle.cm_envelope.specs.Lines.{max_stream_bytes};
@@ -27,8 +26,8 @@ use crate::state::State;
 use crate::stop::Stop;
 use cm_attempt::{Policy, Settings, Track, TrackFault};
 use cm_envelope::{
-    ByteSource, Envelope, Feed, TestCase, TestCaseFinished, TestCaseStarted, TestStepFinished,
-    TestStepStarted, Trouble, is_blank_line, read_envelope,
+    ByteSource, Envelope, EnvelopeFault, Feed, TestCase, TestCaseFinished, TestCaseStarted,
+    TestStepFinished, TestStepStarted, Trouble, is_blank_line, read_envelope,
 };
 use cm_stream::{Audited, StreamFault, Verdict};
 use std::alloc::{AllocError, Global};
@@ -81,29 +80,20 @@ fn take_line<W: Watch>(
     }
 }
 
-/// The envelope of a line, read once more, where the line has one and there is memory.
-fn read_again(alloc: Global, line: &[u8]) -> Option<Envelope>
-    ensures { IfSome result (λ envelope. envelope_of_line line.now ≡ Ok envelope) }
+/// The envelope of a line that stops the audit, read once more where that is wanted, and where the line has one.
+///
+/// # Errors
+/// Where there is no memory for it.
+fn read_last(alloc: Global, is_wanted: bool, line: &[u8]) -> Result<Option<Envelope>, AllocError>
+    ensures { IfOk result (λ last. RereadsLine is_wanted last line.now) }
 {
-    match read_envelope(alloc, line) {
-        Ok(envelope) => Some(envelope),
-        Err(_) => None,
+    if !is_wanted {
+        return Ok(None);
     }
-}
-
-/// The envelope of a line that stops the audit, where the watch wants it and there is memory to read it once more.
-fn read_last<W: Watch>(
-    alloc: Global,
-    watch: &W,
-    line: &[u8],
-    taken: Result<(), Stop>,
-) -> Option<Envelope>
-    ensures { ReadsAgain result line.now taken }
-{
-    if taken.is_err() && watch.wants_last() {
-        read_again(alloc, line)
-    } else {
-        None
+    match read_envelope(alloc, line) {
+        Ok(envelope) => Ok(Some(envelope)),
+        Err(EnvelopeFault::Line(_)) => Ok(None),
+        Err(EnvelopeFault::Memory) => Err(AllocError),
     }
 }
 
@@ -112,7 +102,9 @@ fn read_last<W: Watch>(
 struct Judging<W> {
     state: State,
     watch: W,
-    /// The envelope of the line that stopped it, where the watch wants it.
+    /// Whether the watch wants the envelope of the line that stops it.
+    wants_last: bool,
+    /// That envelope, where it is wanted and the line has one.
     last: Option<Envelope>,
     settings: Settings,
 }
@@ -122,8 +114,10 @@ impl<W: Watch> TakeLines for Judging<W> {
 
     fn take_line(&mut self, alloc: Global, line: &[u8]) -> Result<(), Stop> {
         let taken = take_line(alloc, &mut self.state, &mut self.watch, line, self.settings);
-        let last = read_last(alloc, &self.watch, line, taken);
-        drop(replace(&mut self.last, last));
+        if taken.is_err() {
+            let last = read_last(alloc, self.wants_last, line)?;
+            drop(replace(&mut self.last, last));
+        }
         taken
     }
 }
@@ -140,6 +134,8 @@ fn audit_lines<R: ByteSource, W: Watch>(
     ensures judged { OfReads (R.input source.old) (R.input source.new)
         (JudgesWith judging.old.settings (W.follows judging.new.watch) judging.new.last
         (summary_of judging.new.state) result) }
+    ensures wanted { judging.old.wants_last ≡ true
+        → IfOk result (λ audited. HasLast judging.new.last audited.verdict) }
     ensures at_end { GoodAtEnd (R.input source.new) result }
     ensures failures { CountsFailure (is_failed_read result) (R.input source.old).failed_calls
         (R.input source.new).failed_calls }
@@ -163,7 +159,7 @@ pub struct WatchedAudit<W> {
     /// What `audit_run` answers.
     pub audited: Audited,
     pub watch: W,
-    /// The envelope of the line that decided, where the watch wants it and there was memory to read it once more.
+    /// The envelope of the line that decided, where the watch wants it and the line has one.
     pub last: Option<Envelope>,
     /// What is kept of all lines of a good stream, or of the lines before the one that has a fault.
     pub state: State,
@@ -198,7 +194,7 @@ fn with_watch<W: Drop>(
 /// watch is then: what it has to be after all envelopes of the stream, or after those up to the line that decides.
 ///
 /// # Errors
-/// As those of `audit_run`, and want of memory for the watch.
+/// As those of `audit_run`, and want of memory for the watch, or to read the line that decides once more for it.
 pub fn audit_watched<R: ByteSource, W: Watch + Drop>(
     alloc: Global,
     seed: RandomState,
@@ -210,13 +206,17 @@ pub fn audit_watched<R: ByteSource, W: Watch + Drop>(
     // The audit, what the watch is, and for Good the results of the stream's cases, all of the same bytes.
     ensures same_bytes { OfReads (R.input source.old) (R.input source.new)
         (IsWatchedAuditOf settings W.follows result) }
+    ensures wanted { W.rereads ≡ true
+        → IfOk result (λ watched. HasLast watched.last watched.audited.verdict) }
     ensures at_end { GoodAtEnd (R.input source.new) (audit_in result) }
     ensures failures { CountsFailure (is_failed_read result) (R.input source.old).failed_calls
         (R.input source.new).failed_calls }
 {
+    let wants_last = watch.wants_last();
     let mut judging = Judging {
         state: State::new(alloc, seed, settings.first_attempt),
         watch,
+        wants_last,
         last: None,
         settings,
     };

@@ -1,4 +1,5 @@
-use Rattle.cm_audit.proofs.Following.{at_end_with, failed_with, watched_audit}
+use Rattle.std.proofs.Common.{◌∙◌}
+use Rattle.cm_audit.proofs.Following.{at_end_with, failed_with, last_with, watched_audit}
 use Rattle.cm_audit.proofs.auditing.audit_watched.Goals as goal
 
 pub returns-clause-same_bytes : goal.returns-clause-same_bytes
@@ -15,3 +16,8 @@ pub returns-clause-failures : goal.returns-clause-failures
 returns-clause-failures g c =
     let judged = c.audit_lines-audited in
     rw (c.with_watch.ensures, failed_with judged.result judged.new.judging.watch judged.new.judging.last judged.new.judging.state) judged.ensures.failures
+
+pub returns-clause-wanted : goal.returns-clause-wanted
+returns-clause-wanted g c =
+    let judged = c.audit_lines-audited in
+    rw c.with_watch.ensures (λ wants. last_with judged.result judged.new.judging.watch judged.new.judging.last judged.new.judging.state (judged.ensures.wanted (c.wants_last-wants_last.ensures ∙ wants)))
