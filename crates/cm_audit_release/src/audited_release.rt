@@ -133,16 +133,25 @@ fn with_tally(
     ensures { result ≡ with_tally audited judgement tally }
 {
     match judgement {
-        Ok(judgement) => Ok(JudgedAudit {
-            release: AuditedRelease {
-                audited,
-                found: judgement.found,
-                hold: judgement.hold,
-                reasons: judgement.reasons,
+        Ok(
+            Judgement {
+                found,
+                hold,
+                reasons,
             },
-            tally,
-        }),
-        Err(_) => Err(Trouble::Memory),
+        ) => {
+            let release = AuditedRelease {
+                audited,
+                found,
+                hold,
+                reasons,
+            };
+            Ok(JudgedAudit { release, tally })
+        }
+        Err(_) => {
+            drop(tally);
+            Err(Trouble::Memory)
+        }
     }
 }
 

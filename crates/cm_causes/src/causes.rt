@@ -158,6 +158,28 @@ impl<'a, 'b, 'p> AddLine<CaseResult<'b>> for ResultLines<'a, 'p> {
     }
 }
 
+/// Adds the lines of results, a hundred at most.
+fn add_result_lines(
+    alloc: Global,
+    seed: RandomState,
+    text: &mut String,
+    trail: &Trail,
+    results: &[CaseResult<'_>],
+) -> Result<(), AllocError>
+    ensures { OnOk result ((es : List SomeEnvelope) → trail.now ≡ trail_of es
+        → string_bytes text.new ≡ string_bytes text.old
+        ++ limited_text (map (λ r. told_result es r.id.now r.status) results.now)) }
+{
+    let places = trail.places(alloc, seed)?;
+    let lines = ResultLines {
+        places: &places,
+        steps: trail.steps(),
+    };
+    let added = add_limited(text, &lines, results);
+    drop(places);
+    added
+}
+
 /// Adds the line of each test case that isn't good, a hundred at most.
 ///
 /// # Errors
@@ -175,12 +197,9 @@ fn add_case_causes(
         → string_bytes text.new ≡ string_bytes text.old ++ limited_text (case_causes policy es)) }
 {
     let bad = bad_results(alloc, track, policy)?;
-    let places = trail.places(alloc, seed)?;
-    let lines = ResultLines {
-        places: &places,
-        steps: trail.steps(),
-    };
-    add_limited(text, &lines, bad.as_slice())
+    let added = add_result_lines(alloc, seed, text, trail, bad.as_slice());
+    drop(bad);
+    added
 }
 
 /// Whether a result isn't good by the policy, as none isn't.

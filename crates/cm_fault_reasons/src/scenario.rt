@@ -2,14 +2,40 @@
 ghost use Rattle.std.specs.Prelude.{◌≡◌, ◌+◌, ◌-◌, ◌++◌, List, OnOk, length, string_bytes};
 ghost use Rattle.cm_envelope.specs.declared.envelope.Envelope.{Envelope as SomeEnvelope};
 ghost use Rattle.cm_reasons.specs.Trail.{trail_of};
+ghost use Rattle.cm_cases.specs.Listed.{listing_of};
 ghost use Rattle.cm_cases.specs.Places.{case_scenario, pickle_scenario};
 ghost use Rattle.cm_fault_reasons.specs.AttemptLines.{attempt_line, case_line, declared_lines, number_line, number_lines, started_lines};
 ghost use Rattle.cm_fault_reasons.specs.ToldKept.{last_number};
 
+use cm_cases::Places;
 use cm_envelope::Envelope;
 use cm_reasons::Trail;
 use std::alloc::{AllocError, Global};
 use std::hash::RandomState;
+
+/// Adds `case URI:LINE NAME` of the pickle of an id, which has this place.
+fn add_pickle_line(text: &mut String, places: &Places<'_>, pickle: &str) -> Result<(), AllocError>
+    ensures { OnOk result ((es : List SomeEnvelope) → places.now ≡ listing_of es
+        → string_bytes text.new
+        ≡ string_bytes text.old ++ case_line (pickle_scenario es pickle.now)) }
+{
+    text.push_str("case")?;
+    places.add_pickle_scenario(text, pickle)?;
+    text.push_str("\n")?;
+    Ok(())
+}
+
+/// Adds `case URI:LINE NAME` of the test case of an id, whose pickle has this place.
+fn add_case_line(text: &mut String, places: &Places<'_>, case: &str) -> Result<(), AllocError>
+    ensures { OnOk result ((es : List SomeEnvelope) → places.now ≡ listing_of es
+        → string_bytes text.new
+        ≡ string_bytes text.old ++ case_line (case_scenario es case.now)) }
+{
+    text.push_str("case")?;
+    places.add_case_scenario(text, case)?;
+    text.push_str("\n")?;
+    Ok(())
+}
 
 /// Adds `case URI:LINE NAME` of the pickle of an id.
 fn add_of_pickle(
@@ -24,10 +50,9 @@ fn add_of_pickle(
         ≡ string_bytes text.old ++ case_line (pickle_scenario es pickle.now)) }
 {
     let places = trail.places(alloc, seed)?;
-    text.push_str("case")?;
-    places.add_pickle_scenario(text, pickle)?;
-    text.push_str("\n")?;
-    Ok(())
+    let added = add_pickle_line(text, &places, pickle);
+    drop(places);
+    added
 }
 
 /// Adds `case URI:LINE NAME` of the test case of an id.
@@ -43,10 +68,9 @@ fn add_of_case(
         ≡ string_bytes text.old ++ case_line (case_scenario es case.now)) }
 {
     let places = trail.places(alloc, seed)?;
-    text.push_str("case")?;
-    places.add_case_scenario(text, case)?;
-    text.push_str("\n")?;
-    Ok(())
+    let added = add_case_line(text, &places, case);
+    drop(places);
+    added
 }
 
 /// Adds `attempt N`.

@@ -216,12 +216,55 @@ impl<'a> Undefined<'a> {
             });
         }
         let starts = firsts_of::<StartId, StartEntry>(alloc, seed, kept.starts.as_slice())?;
+        let undefined = Undefined::by_starts(alloc, seed, policy, kept, &starts);
+        drop(starts);
+        undefined
+    }
+
+    /// Those of what was kept, by the attempts of these ids.
+    fn by_starts(
+        alloc: Global,
+        seed: RandomState,
+        policy: Policy,
+        kept: &'a Kept,
+        starts: &ByText<'_, &'a StartEntry>,
+    ) -> Result<Undefined<'a>, AllocError>
+        requires { HasFirsts (λ s. s.now) (λ s. s) (λ s. s.id) kept.now.starts starts.now }
+        ensures count { IfOk result (λ undefined.
+            undefined.count ≡ count_by (is_undefined_in policy kept.now) kept.now.finishes) }
+        ensures steps { IfOk result (λ undefined.
+            map step_ids undefined.steps.items ≡ undefined_steps_in policy kept.now) }
+    {
         let cases = unmatched_by_case(alloc, seed, kept.cases.as_slice())?;
+        let undefined = Undefined::by_maps(alloc, seed, policy, kept, starts, &cases);
+        drop(cases);
+        undefined
+    }
+
+    /// Those of what was kept, by the attempts of these ids and the unmatched steps of these cases.
+    fn by_maps(
+        alloc: Global,
+        seed: RandomState,
+        policy: Policy,
+        kept: &'a Kept,
+        starts: &ByText<'_, &'a StartEntry>,
+        cases: &ByText<'_, TextSet<'_>>,
+    ) -> Result<Undefined<'a>, AllocError>
+        requires starts { HasFirsts (λ s. s.now) (λ s. s) (λ s. s.id) kept.now.starts starts.now }
+        requires cases { HasFirsts (λ s. s) (λ c. c.unmatched) (λ c. c.id) kept.now.cases cases.now }
+        ensures count { IfOk result (λ undefined.
+            undefined.count ≡ count_by (is_undefined_in policy kept.now) kept.now.finishes) }
+        ensures steps { IfOk result (λ undefined.
+            map step_ids undefined.steps.items ≡ undefined_steps_in policy kept.now) }
+    {
         let finishes = kept.finishes.as_slice();
-        let passed = passed_steps(alloc, seed, &starts, &cases, policy, finishes)?;
+        let count = undefined_count(starts, cases, policy, finishes);
+        let passed = passed_steps(alloc, seed, starts, cases, policy, finishes)?;
+        let steps = steps_of_cases(alloc, &passed, kept.cases.as_slice());
+        drop(passed);
         Ok(Undefined {
-            count: undefined_count(&starts, &cases, policy, finishes),
-            steps: steps_of_cases(alloc, &passed, kept.cases.as_slice())?,
+            count,
+            steps: steps?,
         })
     }
 }
