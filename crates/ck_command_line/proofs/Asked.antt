@@ -9,7 +9,7 @@ use Rattle.clap.proofs.OnLiterals.{clap_on_literals}
 use Rattle.clap.specs.Words.{App, Text}
 use Rattle.clap.specs.Walk.{arg_by_long, bundle_met, walked}
 use Rattle.clap.specs.Faults.{flags_fault, walk_fault, defaults_fault}
-use Rattle.ck_command_line.specs.CommandLine.{Asked, ask_parse, ask_compile, asked_of, is_help_call, over_features, over_input, over_runs}
+use Rattle.ck_command_line.specs.CommandLine.{Request, ask_parse, ask_compile, asked_of, is_help_call, over_features, over_input, over_runs}
 use Rattle.ck_command_line.specs.CommandLine.{gate_command, audit_command, cases_command, results_command, parse_command, compile_command}
 use Rattle.ck_command_line.specs.Asked.{Ask, CallForHelp, TakesItsOptions, RefusesFiles, RefusesOtherOptions, FeaturesAreAsked, NothingIsAsked, ExamplesAreAsked}
 use Rattle.ck_command_line.specs.Asked.{all_words, usages, named_options, named_options_over_input, examples, features_examples, runs_examples, mistakes, help_calls, is_option, words_of_line}
@@ -21,7 +21,7 @@ use Rattle.ck_command_line.proofs.Options.{answers, results_takes}
 use Rattle.ck_command_line.proofs.Plain.{plain}
 use Rattle.ck_command_line.proofs.Refused.{file_is_refused, option_is_refused, gate_leaf, leaf_like_audit, cases_leaf, results_leaf, parse_leaf, compile_leaf}
 
-ask : (texts : List Text) (asked : Option Asked) → LineAnswers texts asked → Ask texts asked
+ask : (texts : List Text) (asked : Option Request) → LineAnswers texts asked → Ask texts asked
 ask texts asked told words is = (
   ap (λ (ts : List Text). asked_of (codes "cukecheck" ∷ ts)) is ∙ told.0,
   ap (λ (ts : List Text). is_help_call (codes "cukecheck" ∷ ts)) is ∙ told.1,
@@ -152,7 +152,7 @@ features_are_asked = record {
 -- ---- examples
 
 -- what words ask for, and whether they call for help
-told : Text → Option Asked × Bool
+told : Text → Option Request × Bool
 told text = (asked_of (codes "cukecheck" ∷ words_of_line text), is_help_call (codes "cukecheck" ∷ words_of_line text))
 
 abbrev first_or : {A : Type 0} → A → List A → A
@@ -164,7 +164,7 @@ but_first [] = []
 but_first (x ∷ xs) = xs
 
 -- of rows with words, each of which is told what the row says
-each : {X : Type 0} (text : X → Text) (says : X → Option Asked × Bool) (P : X → Type 0) → ((x : X) → told (text x) ≡ says x → P x)
+each : {X : Type 0} (text : X → Text) (says : X → Option Request × Bool) (P : X → Type 0) → ((x : X) → told (text x) ≡ says x → P x)
     → (rows : List X) → map (λ x. told (text x)) rows ≡ map says rows → AllByRecursion P rows
 each text says P f [] same = tt
 each text says P f (x ∷ xs) same = (f x (ap (first_or (says x)) same), each text says P f xs (ap but_first same))
@@ -173,18 +173,18 @@ pub examples_are_asked : ExamplesAreAsked
 unfolding asked_of is_help_call clap_on_literals told
 examples_are_asked = record {
   commands =
-      each (λ row. row.0) (λ row. (Some (over_input row.1), false)) (λ row. Ask (words_of_line row.0) (Some (over_input row.1))) (λ row same. ask (words_of_line row.0) (Some (over_input row.1)) (ap (λ (t : Option Asked × Bool). t.0) same, ap (λ (t : Option Asked × Bool). t.1) same))
+      each (λ row. row.0) (λ row. (Some (over_input row.1), false)) (λ row. Ask (words_of_line row.0) (Some (over_input row.1))) (λ row same. ask (words_of_line row.0) (Some (over_input row.1)) (ap (λ (t : Option Request × Bool). t.0) same, ap (λ (t : Option Request × Bool). t.1) same))
       examples refl;
   runs =
-      each (λ row. row.0) (λ row. (Some (over_runs row.1), false)) (λ row. Ask (words_of_line row.0) (Some (over_runs row.1))) (λ row same. ask (words_of_line row.0) (Some (over_runs row.1)) (ap (λ (t : Option Asked × Bool). t.0) same, ap (λ (t : Option Asked × Bool). t.1) same))
+      each (λ row. row.0) (λ row. (Some (over_runs row.1), false)) (λ row. Ask (words_of_line row.0) (Some (over_runs row.1))) (λ row same. ask (words_of_line row.0) (Some (over_runs row.1)) (ap (λ (t : Option Request × Bool). t.0) same, ap (λ (t : Option Request × Bool). t.1) same))
       runs_examples refl;
   features =
-      each (λ row. row.0) (λ row. (Some (over_features row.1), false)) (λ row. Ask (words_of_line row.0) (Some (over_features row.1))) (λ row same. ask (words_of_line row.0) (Some (over_features row.1)) (ap (λ (t : Option Asked × Bool). t.0) same, ap (λ (t : Option Asked × Bool). t.1) same))
+      each (λ row. row.0) (λ row. (Some (over_features row.1), false)) (λ row. Ask (words_of_line row.0) (Some (over_features row.1))) (λ row same. ask (words_of_line row.0) (Some (over_features row.1)) (ap (λ (t : Option Request × Bool). t.0) same, ap (λ (t : Option Request × Bool). t.1) same))
       features_examples refl;
   mistakes =
-      each (λ text. text) (λ text. (None, false)) (λ text. Ask (words_of_line text) None) (λ text same. ask (words_of_line text) None (ap (λ (t : Option Asked × Bool). t.0) same, ap (λ (t : Option Asked × Bool). t.1) same))
+      each (λ text. text) (λ text. (None, false)) (λ text. Ask (words_of_line text) None) (λ text same. ask (words_of_line text) None (ap (λ (t : Option Request × Bool). t.0) same, ap (λ (t : Option Request × Bool). t.1) same))
       mistakes refl;
   help =
-      each (λ text. text) (λ text. (None, true)) (λ text. CallForHelp (words_of_line text)) (λ text same. call_for_help (words_of_line text) (ap (λ (t : Option Asked × Bool). t.0) same, ap (λ (t : Option Asked × Bool). t.1) same))
+      each (λ text. text) (λ text. (None, true)) (λ text. CallForHelp (words_of_line text)) (λ text same. call_for_help (words_of_line text) (ap (λ (t : Option Request × Bool). t.0) same, ap (λ (t : Option Request × Bool). t.1) same))
       help_calls refl;
 }

@@ -8,8 +8,8 @@ use Rattle.clap.specs.Walk.{Held, bundle_met, nothing_held, reading_by, rows_aft
 use Rattle.clap.specs.Simple.{Shape}
 use Rattle.clap.specs.Faults.{flags_fault, walk_fault}
 use Rattle.cm_attempt.specs.declared.status.Settings.{Settings}
-use Rattle.ck_command_line.specs.CommandLine.{Asked, Command, ask_audit, command_like_audit, command_named, is_given, over_input, settings_in}
-use Rattle.ck_command_line.specs.Asked.{Written, features, allow_unrun, allow_unrun_tagged, no_retries, no_skips, no_stepless, no_undefined, strict, as_json, pending_passes, attempts_from, allow_redeclared, run}
+use Rattle.ck_command_line.specs.CommandLine.{Request, Command, ask_audit, command_like_audit, command_named, is_given, over_input, settings_in}
+use Rattle.ck_command_line.specs.Asked.{WrittenWord, features, allow_unrun, allow_unrun_tagged, no_retries, no_skips, no_stepless, no_undefined, strict, as_json, pending_passes, attempts_from, allow_redeclared, run}
 use Rattle.ck_command_line.specs.Asked.{IsPlain, all_words, are_distinct, asked_with, has_name, is_there, number_of, settings_written, usage_like_audit}
 use Rattle.ck_command_line.proofs.Gate.{same_settings}
 use Rattle.ck_command_line.proofs.Leaves.{faults, leaf}
@@ -24,11 +24,11 @@ own_names = (usage_like_audit (codes "audit") ask_audit).options
 
 -- ---- no conditions are written
 
-wider : (options : List Written) → AllByRecursion (λ option. is_own own_names option ≡ true) options → AreFree options
+wider : (options : List WrittenWord) → AllByRecursion (λ option. is_own own_names option ≡ true) options → AreFree options
 wider [] h = tt
 wider (option ∷ options) h = (or_right (has_name (codes "json") option) (is_own own_names option) h.0, wider options h.1)
 
-asked : (name : Text) (asks : Settings → Command) (options : List Written) → are_distinct own_names options ≡ true → asked_with (usage_like_audit name asks) options ≡ option_map (λ s. over_input (asks s)) (settings_written options)
+asked : (name : Text) (asks : Settings → Command) (options : List WrittenWord) → are_distinct own_names options ≡ true → asked_with (usage_like_audit name asks) options ≡ option_map (λ s. over_input (asks s)) (settings_written options)
 asked name asks options d =
     let free = wider options (all_own own_names options d) in
     λ j. option_and_then (λ c. option_and_then (λ r. option_and_then (λ p. option_map (λ s. over_input (asks s)) (settings_written options)) (featureless options free j)) (runless options free j)) (unconditional options free j)
@@ -39,7 +39,7 @@ module _ (name : Text) where
   abbrev audit : Shape
   audit = leaf (command_like_audit name)
 
-  use_one : (option : Written) → is_own own_names option ≡ true → IsPlain option → (h : Held) → settling audit h ≡ [] → IsNew option (rows_now audit h) → Used audit option h
+  use_one : (option : WrittenWord) → is_own own_names option ≡ true → IsPlain option → (h : Held) → settling audit h ≡ [] → IsNew option (rows_now audit h) → Used audit option h
   unfolding bundle_met walked flags_fault walk_fault
   use_one (features w p) own k h n new = absurd (false≢true own)
   use_one allow_unrun own k h n new = absurd (false≢true own)
@@ -56,7 +56,7 @@ module _ (name : Text) where
   use_one allow_redeclared own k h n new = ((refl, refl, refl, refl), refl, once (settling audit h) (again audit (codes "allow-redeclared") (rows_now audit h)) n (is_new audit (codes "allow-redeclared") (rows_now audit h) (new refl)), refl)
   use_one (run w) own k h n new = absurd (false≢true own)
 
-  told : (option : Written) → is_own own_names option ≡ true → Told audit option
+  told : (option : WrittenWord) → is_own own_names option ≡ true → Told audit option
   told (features w p) own row rows new = absurd (false≢true own)
   told allow_unrun own row rows new = absurd (false≢true own)
   told (allow_unrun_tagged w t) own row rows new = absurd (false≢true own)
@@ -76,7 +76,7 @@ module _ (name : Text) where
 
   -- ---- any list of options
 
-  module _ (options : List Written) (d : are_distinct own_names options ≡ true) (k : AllByRecursion IsPlain options) where
+  module _ (options : List WrittenWord) (d : are_distinct own_names options ≡ true) (k : AllByRecursion IsPlain options) where
     all_used : AreUsed audit options nothing_held
     all_used = use_all audit own_names audit_reads options d k refl refl
 
@@ -114,9 +114,9 @@ module _ (name : Text) where
 -- ---- the two commands
 
 -- the command finds no fault, and this is what its values ask for
-abbrev pub Reads : Shape → List Text → Option Asked → Type 0
+abbrev pub Reads : Shape → List Text → Option Request → Type 0
 Reads s words asked = (faults s words ≡ []) × (command_named s.name (rows_after s.rules [] words) ≡ asked)
 
-module _ (options : List Written) (d : are_distinct own_names options ≡ true) (k : AllByRecursion IsPlain options) where
+module _ (options : List WrittenWord) (d : are_distinct own_names options ≡ true) (k : AllByRecursion IsPlain options) where
   pub audit_takes : Reads (leaf (command_like_audit (codes "audit"))) (all_words options) (asked_with (usage_like_audit (codes "audit") ask_audit) options)
   audit_takes = (no_faults (codes "audit") options d k, ap (option_map (λ s. over_input (ask_audit s))) (settings_read (codes "audit") options d k) ∙ sym (asked (codes "audit") ask_audit options d))

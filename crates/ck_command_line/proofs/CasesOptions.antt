@@ -8,7 +8,7 @@ use Rattle.clap.specs.Walk.{Held, bundle_met, nothing_held, reading_by, rows_aft
 use Rattle.clap.specs.Simple.{Shape}
 use Rattle.clap.specs.Faults.{flags_fault, walk_fault}
 use Rattle.ck_command_line.specs.CommandLine.{cases_asked, cases_command, form_in, is_given, settings_in}
-use Rattle.ck_command_line.specs.Asked.{Written, features, allow_unrun, allow_unrun_tagged, no_retries, no_skips, no_stepless, no_undefined, strict, as_json, pending_passes, attempts_from, allow_redeclared, run}
+use Rattle.ck_command_line.specs.Asked.{WrittenWord, features, allow_unrun, allow_unrun_tagged, no_retries, no_skips, no_stepless, no_undefined, strict, as_json, pending_passes, attempts_from, allow_redeclared, run}
 use Rattle.ck_command_line.specs.Asked.{IsPlain, all_words, are_distinct, cases_usage, asked_with, form_of, is_there, number_of, settings_written}
 use Rattle.ck_command_line.specs.declared.command_line.CaseForm.TheVariants.{Plain, Json}
 use Rattle.ck_command_line.proofs.AuditOptions.{Reads}
@@ -23,14 +23,14 @@ use Rattle.ck_command_line.proofs.Using.{AreUsed, IsNew, ReadsEach, Told, Used, 
 abbrev listed : Shape
 listed = leaf cases_command
 
-asked : (options : List Written) → are_distinct cases_usage.options options ≡ true → asked_with cases_usage options ≡ cases_asked (settings_written options) (form_of options)
+asked : (options : List WrittenWord) → are_distinct cases_usage.options options ≡ true → asked_with cases_usage options ≡ cases_asked (settings_written options) (form_of options)
 asked options d =
     let free = all_own cases_usage.options options d in
     λ j. option_and_then (λ c. option_and_then (λ r. option_and_then (λ p. cases_asked (settings_written options) (form_of options)) (featureless options free j)) (runless options free j)) (unconditional options free j)
 
 -- ---- one option
 
-use_one : (option : Written) → is_own cases_usage.options option ≡ true → IsPlain option → (h : Held) → settling listed h ≡ [] → IsNew option (rows_now listed h) → Used listed option h
+use_one : (option : WrittenWord) → is_own cases_usage.options option ≡ true → IsPlain option → (h : Held) → settling listed h ≡ [] → IsNew option (rows_now listed h) → Used listed option h
 unfolding bundle_met walked flags_fault walk_fault
 use_one (features w p) own k h n new = absurd (false≢true own)
 use_one allow_unrun own k h n new = absurd (false≢true own)
@@ -47,7 +47,7 @@ use_one (attempts_from false m) own k h n new = let v = plain m k in rw (v.0, v.
 use_one allow_redeclared own k h n new = ((refl, refl, refl, refl), refl, once (settling listed h) (again listed (codes "allow-redeclared") (rows_now listed h)) n (is_new listed (codes "allow-redeclared") (rows_now listed h) (new refl)), refl)
 use_one (run w) own k h n new = absurd (false≢true own)
 
-told : (option : Written) → is_own cases_usage.options option ≡ true → Told listed option
+told : (option : WrittenWord) → is_own cases_usage.options option ≡ true → Told listed option
 told (features w p) own row rows new = absurd (false≢true own)
 told allow_unrun own row rows new = absurd (false≢true own)
 told (allow_unrun_tagged w t) own row rows new = absurd (false≢true own)
@@ -67,7 +67,7 @@ cases_read = record { uses = use_one; told = told }
 
 -- ---- any list of options
 
-module _ (options : List Written) (d : are_distinct cases_usage.options options ≡ true) (k : AllByRecursion IsPlain options) where
+module _ (options : List WrittenWord) (d : are_distinct cases_usage.options options ≡ true) (k : AllByRecursion IsPlain options) where
   all_used : AreUsed listed options nothing_held
   all_used = use_all listed cases_usage.options cases_read options d k refl refl
 

@@ -11,7 +11,7 @@ use Rattle.clap.specs.declared.error.kind.ErrorKind.{ErrorKind}
 use Rattle.clap.specs.declared.error.kind.ErrorKind.TheVariants.{DisplayHelp, DisplayVersion, OutOfMemory}
 use Rattle.clap.specs.declared.parser.matches.ArgMatches.{ArgMatches}
 use Rattle.clap.specs.declared.parser.matches.ArgMatches.TheViews.{out-ArgMatches, out-SubCommand}
-use Rattle.ck_command_line.specs.CommandLine.{Asked, Chooses, Shows, asked_of, asked_of_choice, command_app, subcommand_named, where_none}
+use Rattle.ck_command_line.specs.CommandLine.{Request, Chooses, Shows, asked_of, asked_of_choice, command_app, subcommand_named, where_none}
 use Rattle.ck_command_line.specs.CommandLine.{HelpsByKind, HelpsOnCall, IsNoHelp, is_help, is_help_call}
 use Rattle.ck_command_line.specs.declared.command_line.Choice.{Choice}
 use Rattle.ck_command_line.specs.declared.command_line.NoChoice.{NoChoice}
@@ -37,7 +37,7 @@ taken a words m is has free =
     subst (λ b. subcommand_named (subcommand_rows_of m) ≡ where_none (fault_of b words) (subcommand_named (subcommand_of b words))) is
     (taken_by a words m (free (is_free_command a is)) (has (is_simple_command a is)).1)
 
-by_kinds : (kinds : Kinds) (found : Option Asked) (e : Error) (r : Refusal) → HasKind kinds e
+by_kinds : (kinds : Kinds) (found : Option Request) (e : Error) (r : Refusal) → HasKind kinds e
     → (kind_of e ≡ OutOfMemory → r ≡ Memory) → Chooses (where_none kinds found) (Err r)
 by_kinds [] (Some c) e r (inl h) f = f h
 by_kinds [] (Some c) e r (inr h) f = absurd h
@@ -66,10 +66,10 @@ pub met : (m : ArgMatches) (name : Text) (rows : List Row) → Some name ≡ sub
 met m name rows is has = named (λ b. (out-SubCommand (box_value b)).name.now) (λ b. rows_of (found_of (out-SubCommand (box_value b)).matches)) (out-ArgMatches m).subcommand name rows (sym is) (sym has)
 
 -- the choice that was read off the matches
-pub chosen_some : (words : List Text) (asked : Option Asked) (c : Choice) → Shows asked_of_choice asked (Ok c) → asked ≡ asked_of words → Chooses (asked_of words) (Ok c)
+pub chosen_some : (words : List Text) (asked : Option Request) (c : Choice) → Shows asked_of_choice asked (Ok c) → asked ≡ asked_of words → Chooses (asked_of words) (Ok c)
 chosen_some words asked c is same = subst (λ o. Chooses o (Ok c)) (sym is ∙ same) refl
 
-by_reason : (asked : Option Asked) (why : NoChoice) (r : Refusal) → Shows asked_of_choice asked (Err why) → (why ≡ reason.Memory → r ≡ Memory) → Chooses asked (Err r)
+by_reason : (asked : Option Request) (why : NoChoice) (r : Refusal) → Shows asked_of_choice asked (Err why) → (why ≡ reason.Memory → r ≡ Memory) → Chooses asked (Err r)
 by_reason (Some c) reason.Memory r is memory = memory refl
 by_reason None reason.Memory r is memory = refl
 by_reason asked reason.NoCommand r is memory = subst (λ o. Chooses o (Err r)) (sym is) refl
@@ -79,7 +79,7 @@ by_reason asked reason.BothUnrun r is memory = subst (λ o. Chooses o (Err r)) (
 by_reason asked reason.UnrunWithFeatures r is memory = subst (λ o. Chooses o (Err r)) (sym is) refl
 by_reason asked reason.TwoInputs r is memory = subst (λ o. Chooses o (Err r)) (sym is) refl
 
-pub chosen_none : (words : List Text) (asked : Option Asked) (why : NoChoice) (r : Refusal) → Shows asked_of_choice asked (Err why) → (why ≡ reason.Memory → r ≡ Memory) → asked ≡ asked_of words
+pub chosen_none : (words : List Text) (asked : Option Request) (why : NoChoice) (r : Refusal) → Shows asked_of_choice asked (Err why) → (why ≡ reason.Memory → r ≡ Memory) → asked ≡ asked_of words
     → Chooses (asked_of words) (Err r)
 chosen_none words asked why r is memory same = subst (λ o. Chooses o (Err r)) same (by_reason asked why r is memory)
 

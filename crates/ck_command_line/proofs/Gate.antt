@@ -11,8 +11,8 @@ use Rattle.clap.specs.Faults.{flags_fault, walk_fault}
 use Rattle.cm_attempt.specs.declared.status.Policy.TheVariants.{Strict, PendingPasses}
 use Rattle.cm_attempt.specs.declared.status.Settings.{Settings}
 use Rattle.cm_stream.specs.Release.{Conditions}
-use Rattle.ck_command_line.specs.CommandLine.{Asked, command_named, conditions_by, features_named, first_attempt_named, gate_asked, gate_command, is_given, is_tag, runs_named, tags_allowed}
-use Rattle.ck_command_line.specs.Asked.{Written, features, allow_unrun, allow_unrun_tagged, no_retries, no_skips, no_stepless, no_undefined, strict, as_json, pending_passes, attempts_from, allow_redeclared, run}
+use Rattle.ck_command_line.specs.CommandLine.{Request, command_named, conditions_by, features_named, first_attempt_named, gate_asked, gate_command, is_given, is_tag, runs_named, tags_allowed}
+use Rattle.ck_command_line.specs.Asked.{WrittenWord, features, allow_unrun, allow_unrun_tagged, no_retries, no_skips, no_stepless, no_undefined, strict, as_json, pending_passes, attempts_from, allow_redeclared, run}
 use Rattle.ck_command_line.specs.Asked.{IsPlain, all_words, are_distinct, asked_of_run, asked_with, conditions_written, gate_usage, has_both_unrun, is_there, names_taken, number_of, tags_of}
 use Rattle.ck_command_line.proofs.Between.{never}
 use Rattle.ck_command_line.proofs.Leaves.{faults, leaf}
@@ -26,7 +26,7 @@ gate = leaf gate_command
 
 -- ---- one option
 
-use_one : (option : Written) → is_own (names_taken gate_usage) option ≡ true → IsPlain option → (h : Held) → settling gate h ≡ [] → IsNew option (rows_now gate h) → Used gate option h
+use_one : (option : WrittenWord) → is_own (names_taken gate_usage) option ≡ true → IsPlain option → (h : Held) → settling gate h ≡ [] → IsNew option (rows_now gate h) → Used gate option h
 unfolding bundle_met walked flags_fault walk_fault
 use_one (features true p) own k h n new = ((refl, refl, refl, refl), refl, waiting (or_else (settling gate h) []) (rw n refl), refl)
 use_one (features false p) own k h n new = let v = plain p k in rw (v.0, v.1, v.2) (((refl, refl, refl, refl), refl, waiting (settling gate h) n, refl))
@@ -45,7 +45,7 @@ use_one (attempts_from false m) own k h n new = let v = plain m k in rw (v.0, v.
 use_one allow_redeclared own k h n new = ((refl, refl, refl, refl), refl, once (settling gate h) (again gate (codes "allow-redeclared") (rows_now gate h)) n (is_new gate (codes "allow-redeclared") (rows_now gate h) (new refl)), refl)
 use_one (run w) own k h n new = let v = plain w k in rw (v.0, v.1, v.2, never (is_pending (rule_for gate (run w)) h.pending)) ((refl, refl, refl, refl), refl, settled_alone (settling gate h) n, refl)
 
-told : (option : Written) → is_own (names_taken gate_usage) option ≡ true → Told gate option
+told : (option : WrittenWord) → is_own (names_taken gate_usage) option ≡ true → Told gate option
 told (features w p) own name rows new = add_told (codes "features") name (reading_by (rule_for gate (features w p))) (p ∷ []) rows
 told allow_unrun own name rows new = set_told (codes "allow-unrun") name (reading_by (rule_for gate allow_unrun)) (codes "true" ∷ []) rows (new refl)
 told (allow_unrun_tagged w t) own name rows new = add_told (codes "allow-unrun-tagged") name (reading_by (rule_for gate (allow_unrun_tagged w t))) (t ∷ []) rows
@@ -69,7 +69,7 @@ gate_reads = record { uses = use_one; told = told }
 abbrev pub settings_by : (pending again : Bool) → Option Text → Option Settings
 settings_by pending again number = option_map (λ n. record { policy = if pending then PendingPasses else Strict; first_attempt = n; allows_redeclared = again }) (first_attempt_named number)
 
-abbrev gate_by : Option Settings → (unrun four retries skips stepless undefined : Bool) → (tags runs paths : Option (List Text)) → Option Asked
+abbrev gate_by : Option Settings → (unrun four retries skips stepless undefined : Bool) → (tags runs paths : Option (List Text)) → Option Request
 gate_by settings unrun four retries skips stepless undefined tags runs paths =
     gate_asked settings (option_map (conditions_by unrun four retries skips stepless undefined) (tags_allowed unrun tags)) (runs_named runs) (features_named unrun paths)
 
@@ -81,12 +81,12 @@ same_asked : {x y : Option Settings} {u v s t r r' k k' l l' d d' : Bool} {tags 
 same_asked a c e f g i j k m o = rw (a, c, e, f, g, i, j, k, m, o) refl
 
 -- what the flags that are there ask, with these tags
-abbrev by_flags : List Written → List Text → Conditions
+abbrev by_flags : List WrittenWord → List Text → Conditions
 by_flags options =
     conditions_by (is_there (codes "allow-unrun") options) (is_there (codes "strict") options) (is_there (codes "no-retries") options) (is_there (codes "no-skips") options)
     (is_there (codes "no-stepless") options) (is_there (codes "no-undefined") options)
 
-conditions_read : (options : List Written)
+conditions_read : (options : List WrittenWord)
     → option_map (by_flags options)
     (tags_allowed (is_there (codes "allow-unrun") options) (said_all (codes "allow-unrun-tagged") options None))
     ≡ conditions_written options
@@ -103,7 +103,7 @@ conditions_read options =
     go false true = refl
     go false false = refl
 
-module _ (options : List Written) (d : are_distinct (names_taken gate_usage) options ≡ true) (k : AllByRecursion IsPlain options) where
+module _ (options : List WrittenWord) (d : are_distinct (names_taken gate_usage) options ≡ true) (k : AllByRecursion IsPlain options) where
   all_used : AreUsed gate options nothing_held
   all_used = use_all gate (names_taken gate_usage) gate_reads options d k refl refl
 

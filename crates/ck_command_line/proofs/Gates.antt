@@ -11,14 +11,14 @@ use Rattle.clap.specs.Simple.{entered, names_of}
 use Rattle.clap.specs.Faults.{defaults_fault, flags_fault, walk_fault}
 use Rattle.cm_attempt.specs.declared.status.Settings.{Settings}
 use Rattle.cm_stream.specs.Release.{Conditions}
-use Rattle.ck_command_line.specs.CommandLine.{Asked, Command, ask_audit, ask_cases, ask_compile, ask_results, asked_of, command_app, conditions_in, features_in, first_attempt_in, form_in, gate_asked, gate_over, over_input}
+use Rattle.ck_command_line.specs.CommandLine.{Request, Command, ask_audit, ask_cases, ask_compile, ask_results, asked_of, command_app, conditions_in, features_in, first_attempt_in, form_in, gate_asked, gate_over, over_input}
 use Rattle.ck_command_line.specs.CommandLine.{audit_command, cases_command, compile_command, gate_command, results_command, runs_in, settings_in, subcommand_named, where_none}
 use Rattle.ck_command_line.specs.Asked.{GateAsksForGates, IsGate, OnlyGateAsksForGates}
 use Rattle.ck_command_line.proofs.Leaves.{audit_rows, cases_rows, compile_rows, gate_rows, leaf, parse_rows, program, results_rows}
 
 -- what holds where nothing is asked for, and of what a command asks with the values after it
-module _ (P : Option Asked → Type 0) (of_none : P None) where
-  unless_fault : (kinds : Kinds) (asked : Option Asked) → P asked → P (where_none kinds asked)
+module _ (P : Option Request → Type 0) (of_none : P None) where
+  unless_fault : (kinds : Kinds) (asked : Option Request) → P asked → P (where_none kinds asked)
   unless_fault [] asked p = p
   unless_fault (k ∷ ks) asked p = of_none
 
@@ -28,7 +28,7 @@ module _ (P : Option Asked → Type 0) (of_none : P None) where
 
 -- ---- what `gate` asks for
 
-abbrev IsGateIfAny : Option Asked → Type 0
+abbrev IsGateIfAny : Option Request → Type 0
 IsGateIfAny None = ⊤
 IsGateIfAny (Some asked) = IsGate asked
 
@@ -55,7 +55,7 @@ gate_asks_for_gates words others asked first asks =
 
 -- ---- what other words ask for
 
-abbrev IsNoGate : Option Asked → Type 0
+abbrev IsNoGate : Option Request → Type 0
 IsNoGate None = ⊤
 IsNoGate (Some asked) = IsGate asked → ⊥
 
@@ -176,7 +176,7 @@ unfolding asked_of clap_on_literals
 no_word = tt
 
 -- texts that ask for a gate begin with `gate`
-begins : (texts : List Text) (asked : Asked) → asked_of (codes "cukecheck" ∷ texts) ≡ Some asked → IsGate asked → (others : List Text) × (texts ≡ codes "gate" ∷ others)
+begins : (texts : List Text) (asked : Request) → asked_of (codes "cukecheck" ∷ texts) ≡ Some asked → IsGate asked → (others : List Text) × (texts ≡ codes "gate" ∷ others)
 begins [] asked asks is = absurd (subst IsNoGate asks no_word is)
 begins (word ∷ others) asked asks is = go (bytes_eq (codes "gate") word) refl
   where

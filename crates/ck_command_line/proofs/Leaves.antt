@@ -9,7 +9,7 @@ use Rattle.clap.specs.Simple.{Shape, built, built_leaf, entered, inherited, name
 use Rattle.clap.specs.Faults.{defaults_fault, flags_fault, level_fault, walk_fault}
 use Rattle.clap.proofs.WalkLemmas.{walk_stopped}
 use Rattle.clap.proofs.FaultLemmas.{stopped_fault}
-use Rattle.ck_command_line.specs.CommandLine.{Asked, asked_of, command_app, command_named, is_help, is_help_call, subcommand_named, where_none}
+use Rattle.ck_command_line.specs.CommandLine.{Request, asked_of, command_app, command_named, is_help, is_help_call, subcommand_named, where_none}
 use Rattle.ck_command_line.specs.CommandLine.{gate_command, audit_command, cases_command, results_command, compile_command, parse_command}
 
 -- the program, built
@@ -25,12 +25,12 @@ abbrev pub faults : Shape → List Text → Kinds
 faults s words = or_else (level_fault s [] nothing_held words false []) []
 
 -- the words after its name ask for this, or for nothing, and don't call for help
-abbrev pub Answers : Shape → List Text → Option Asked → Type 0
+abbrev pub Answers : Shape → List Text → Option Request → Type 0
 Answers s words asked = (where_none (faults s words) (command_named s.name (rows_after s.rules [] words)) ≡ asked)
     × (list_any is_help (faults s words) ≡ false)
 
 -- the same of all the words
-abbrev pub LineAnswers : List Text → Option Asked → Type 0
+abbrev pub LineAnswers : List Text → Option Request → Type 0
 LineAnswers words asked = (asked_of (codes "cukecheck" ∷ words) ≡ asked) × (is_help_call (codes "cukecheck" ∷ words) ≡ false)
 
 -- where the walk of the program stops
@@ -47,7 +47,7 @@ module _ (others : List Text) where
   -- what is left to a command is its own affair
   passed_on : (s : Shape) → fault_of command_app (codes "cukecheck" ∷ s.name ∷ others) ≡ faults s others
       → subcommand_of command_app (codes "cukecheck" ∷ s.name ∷ others) ≡ Some (s.name, rows_after s.rules [] others)
-      → (asked : Option Asked) → Answers s others asked → LineAnswers (s.name ∷ others) asked
+      → (asked : Option Request) → Answers s others asked → LineAnswers (s.name ∷ others) asked
   unfolding asked_of is_help_call
   passed_on s fault rows asked answers = (
     ap₂ (λ (kinds : Kinds) (rows : Option (Text × List Row)). where_none kinds (subcommand_named rows)) fault rows ∙ answers.0,
@@ -62,7 +62,7 @@ module _ (others : List Text) where
   unfolding walked
   gate_rows = ap (λ (w : Walk). entered program w.stopped) (left (codes "gate"))
 
-  pub gate_words : (asked : Option Asked) → Answers (leaf gate_command) others asked → LineAnswers (codes "gate" ∷ others) asked
+  pub gate_words : (asked : Option Request) → Answers (leaf gate_command) others asked → LineAnswers (codes "gate" ∷ others) asked
   gate_words = passed_on (leaf gate_command) gate_fault gate_rows
 
   audit_fault : fault_of command_app (codes "cukecheck" ∷ codes "audit" ∷ others) ≡ faults (leaf audit_command) others
@@ -73,7 +73,7 @@ module _ (others : List Text) where
   unfolding walked
   audit_rows = ap (λ (w : Walk). entered program w.stopped) (left (codes "audit"))
 
-  pub audit_words : (asked : Option Asked) → Answers (leaf audit_command) others asked → LineAnswers (codes "audit" ∷ others) asked
+  pub audit_words : (asked : Option Request) → Answers (leaf audit_command) others asked → LineAnswers (codes "audit" ∷ others) asked
   audit_words = passed_on (leaf audit_command) audit_fault audit_rows
 
   cases_fault : fault_of command_app (codes "cukecheck" ∷ codes "cases" ∷ others) ≡ faults (leaf cases_command) others
@@ -84,7 +84,7 @@ module _ (others : List Text) where
   unfolding walked
   cases_rows = ap (λ (w : Walk). entered program w.stopped) (left (codes "cases"))
 
-  pub cases_words : (asked : Option Asked) → Answers (leaf cases_command) others asked → LineAnswers (codes "cases" ∷ others) asked
+  pub cases_words : (asked : Option Request) → Answers (leaf cases_command) others asked → LineAnswers (codes "cases" ∷ others) asked
   cases_words = passed_on (leaf cases_command) cases_fault cases_rows
 
   results_fault : fault_of command_app (codes "cukecheck" ∷ codes "results" ∷ others) ≡ faults (leaf results_command) others
@@ -95,7 +95,7 @@ module _ (others : List Text) where
   unfolding walked
   results_rows = ap (λ (w : Walk). entered program w.stopped) (left (codes "results"))
 
-  pub results_words : (asked : Option Asked) → Answers (leaf results_command) others asked → LineAnswers (codes "results" ∷ others) asked
+  pub results_words : (asked : Option Request) → Answers (leaf results_command) others asked → LineAnswers (codes "results" ∷ others) asked
   results_words = passed_on (leaf results_command) results_fault results_rows
 
   parse_fault : fault_of command_app (codes "cukecheck" ∷ codes "parse" ∷ others) ≡ faults (leaf parse_command) others
@@ -106,7 +106,7 @@ module _ (others : List Text) where
   unfolding walked
   parse_rows = ap (λ (w : Walk). entered program w.stopped) (left (codes "parse"))
 
-  pub parse_words : (asked : Option Asked) → Answers (leaf parse_command) others asked → LineAnswers (codes "parse" ∷ others) asked
+  pub parse_words : (asked : Option Request) → Answers (leaf parse_command) others asked → LineAnswers (codes "parse" ∷ others) asked
   parse_words = passed_on (leaf parse_command) parse_fault parse_rows
 
   compile_fault : fault_of command_app (codes "cukecheck" ∷ codes "compile" ∷ others) ≡ faults (leaf compile_command) others
@@ -117,5 +117,5 @@ module _ (others : List Text) where
   unfolding walked
   compile_rows = ap (λ (w : Walk). entered program w.stopped) (left (codes "compile"))
 
-  pub compile_words : (asked : Option Asked) → Answers (leaf compile_command) others asked → LineAnswers (codes "compile" ∷ others) asked
+  pub compile_words : (asked : Option Request) → Answers (leaf compile_command) others asked → LineAnswers (codes "compile" ∷ others) asked
   compile_words = passed_on (leaf compile_command) compile_fault compile_rows

@@ -5,12 +5,12 @@ use Rattle.std.specs.Str.{bytes_eq}
 use Rattle.clap.specs.Words.{Kinds, Row, Text, all_of, fault_of, first_of, subcommand_of}
 use Rattle.cm_attempt.specs.declared.status.Settings.{Settings}
 use Rattle.cm_stream.specs.Release.{Conditions}
-use Rattle.ck_command_line.specs.CommandLine.{Asked, Command, ask_audit, ask_cases, ask_compile, ask_gate, ask_results, asked_of, command_app, command_named, over_features, over_input, over_runs}
+use Rattle.ck_command_line.specs.CommandLine.{Request, Command, ask_audit, ask_cases, ask_compile, ask_gate, ask_results, asked_of, command_app, command_named, over_features, over_input, over_runs}
 use Rattle.ck_command_line.specs.CommandLine.{conditions_by, conditions_in, features_in, features_named, first_attempt_in, form_in, gate_asked, has_flag, has_two_inputs, runs_in, runs_named, settings_in, subcommand_named, tags_allowed, where_none}
 use Rattle.ck_command_line.specs.Asked.{FeaturesAreNamed, IsOverFeatures, RunsAreNamed, RunsAreWhole}
 
 -- If runs are asked for, there is one, and no two are standard input; only with feature files is a run a part.
-abbrev Named : Option Asked → Type 0
+abbrev Named : Option Request → Type 0
 Named None = ⊤
 Named (Some (over_input (ask_gate settings asked))) = asked.is_part ≡ false
 Named (Some (over_input command)) = ⊤
@@ -73,7 +73,7 @@ of_input : {A : Type 0} (f : A → Command) → ((x : A) → Named (Some (over_i
 of_input f each None = tt
 of_input f each (Some x) = each x
 
-either : (here : Bool) (x y : Option Asked) → Named x → Named y → Named (if here then x else y)
+either : (here : Bool) (x y : Option Request) → Named x → Named y → Named (if here then x else y)
 either true x y a b = a
 either false x y a b = b
 

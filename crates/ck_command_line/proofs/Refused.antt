@@ -12,9 +12,9 @@ use Rattle.clap.specs.Simple.{Shape}
 use Rattle.clap.specs.Faults.{flags_fault, settle_fault, turn_fault, walk_fault}
 use Rattle.clap.specs.declared.error.kind.ErrorKind.TheVariants.{ArgumentConflict, UnknownArgument}
 use Rattle.std.proofs.lemmas.Bool.{false_from_ne_true, true≢false}
-use Rattle.ck_command_line.specs.CommandLine.{Asked, is_help, where_none}
+use Rattle.ck_command_line.specs.CommandLine.{Request, is_help, where_none}
 use Rattle.ck_command_line.specs.CommandLine.{cases_command, command_like_audit, compile_command, gate_command, parse_command, results_command}
-use Rattle.ck_command_line.specs.Asked.{Written, features, allow_unrun, allow_unrun_tagged, no_retries, no_skips, no_stepless, no_undefined, strict, as_json, pending_passes, attempts_from, allow_redeclared, run}
+use Rattle.ck_command_line.specs.Asked.{WrittenWord, features, allow_unrun, allow_unrun_tagged, no_retries, no_skips, no_stepless, no_undefined, strict, as_json, pending_passes, attempts_from, allow_redeclared, run}
 use Rattle.ck_command_line.specs.Asked.{IsPlain, words_of, all_words, is_option}
 use Rattle.ck_command_line.proofs.Leaves.{Answers, leaf}
 use Rattle.ck_command_line.proofs.Between.{IsBetween, goes_on, never, or_else-assoc, walk_fault-append}
@@ -35,14 +35,14 @@ conflict true = refl
 conflict false = refl
 
 -- What one option or run does in a command, be it the command's or not: it leaves the walk between two.
-abbrev Step : Shape → Written → Held → Type 0
+abbrev Step : Shape → WrittenWord → Held → Type 0
 Step s option h = IsBetween (fold (walked s.rules []) (walk_from h) (words_of option))
     × NoHelp (walk_fault s [] (walk_from h) (words_of option))
     × NoHelp (settle_fault s.rules s.args_override_self (fold (walked s.rules []) (walk_from h) (words_of option)).held)
 
 -- a command that has no commands of its own
 pub record IsPlainLeaf (s : Shape) : Type 0 where
-  step : (option : Written) → IsPlain option → (h : Held) → NoHelp (settle_fault s.rules s.args_override_self h) → Step s option h
+  step : (option : WrittenWord) → IsPlain option → (h : Held) → NoHelp (settle_fault s.rules s.args_override_self h) → Step s option h
   is_leaf : s.is_leaf ≡ true
 
 module _ (s : Shape) (leaf : IsPlainLeaf s) where
@@ -50,14 +50,14 @@ module _ (s : Shape) (leaf : IsPlainLeaf s) where
   abbrev Stopped : Kinds → Type 0
   Stopped kinds = (before : Kinds) × NoHelp before × (kinds ≡ or_else before (UnknownArgument ∷ []))
 
-  found : (kinds more : Kinds) (asked : Option Asked) → Stopped kinds
+  found : (kinds more : Kinds) (asked : Option Request) → Stopped kinds
       → (where_none (or_else (or_else kinds more) []) asked ≡ None) × NoHelp (or_else (or_else kinds more) [])
   found kinds more asked ([], n, is) = rw is (refl, refl)
   found kinds more asked (k ∷ ks, n, is) = rw is (refl, n)
 
   module _ (word : Text) (others : List Text) (unknown : (h : Held) → turn_fault s [] (walk_from h) word ≡ UnknownArgument ∷ []) where
     -- the walk over options stops at the word
-    stops : (options : List Written) → AllByRecursion IsPlain options → (h : Held) → NoHelp (settle_fault s.rules s.args_override_self h) → Stopped (walk_fault s [] (walk_from h) (all_words options ++ word ∷ others))
+    stops : (options : List WrittenWord) → AllByRecursion IsPlain options → (h : Held) → NoHelp (settle_fault s.rules s.args_override_self h) → Stopped (walk_fault s [] (walk_from h) (all_words options ++ word ∷ others))
     unfolding walk_fault
     stops [] k h n = ([], refl, ap (λ (kinds : Kinds). or_else kinds (walk_fault s [] (walked s.rules [] (walk_from h) word) others)) (unknown h))
     stops (option ∷ options) k h n =
@@ -74,7 +74,7 @@ module _ (s : Shape) (leaf : IsPlainLeaf s) where
               ∙ sym (or_else-assoc here more.0 (UnknownArgument ∷ [])),
         )
 
-    nothing : (options : List Written) → AllByRecursion IsPlain options → Answers s (all_words options ++ word ∷ others) None
+    nothing : (options : List WrittenWord) → AllByRecursion IsPlain options → Answers s (all_words options ++ word ∷ others) None
     nothing options k = found _ _ _ (stops options k nothing_held refl)
 
   file_turn : (word : Text) → is_option word ≡ false → arg_by_index s.rules 1 ≡ None → (h : Held) → turn_fault s [] (walk_from h) word ≡ UnknownArgument ∷ []
@@ -90,10 +90,10 @@ module _ (s : Shape) (leaf : IsPlainLeaf s) where
   other_turn : (word name : Text) (value : Option Text) → long_of word ≡ Some (name, value) → arg_by_long s.rules name ≡ None → (h : Held) → turn_fault s [] (walk_from h) word ≡ UnknownArgument ∷ []
   other_turn word name value long none h = let dashes = no_dashes word name value long in rw (dashes, long, none) refl
 
-  pub file_is_refused : arg_by_index s.rules 1 ≡ None → (options : List Written) → AllByRecursion IsPlain options → (word : Text) → is_option word ≡ false → (others : List Text) → Answers s (all_words options ++ word ∷ others) None
+  pub file_is_refused : arg_by_index s.rules 1 ≡ None → (options : List WrittenWord) → AllByRecursion IsPlain options → (word : Text) → is_option word ≡ false → (others : List Text) → Answers s (all_words options ++ word ∷ others) None
   file_is_refused none options k word plain_word others = nothing word others (file_turn word plain_word none) options k
 
-  pub option_is_refused : (options : List Written) → AllByRecursion IsPlain options → (word name : Text) (value : Option Text) → long_of word ≡ Some (name, value) → arg_by_long s.rules name ≡ None
+  pub option_is_refused : (options : List WrittenWord) → AllByRecursion IsPlain options → (word name : Text) (value : Option Text) → long_of word ≡ Some (name, value) → arg_by_long s.rules name ≡ None
       → (others : List Text) → Answers s (all_words options ++ word ∷ others) None
   option_is_refused options k word name value long none others = nothing word others (other_turn word name value long none) options k
 
@@ -123,7 +123,7 @@ pub gate_leaf : IsPlainLeaf (leaf gate_command)
 unfolding bundle_met walked flags_fault walk_fault
 gate_leaf = record { step = step; is_leaf = refl }
   where
-    step : (option : Written) → IsPlain option → (h : Held) → NoHelp (settle_fault (leaf gate_command).rules (leaf gate_command).args_override_self h) → Step (leaf gate_command) option h
+    step : (option : WrittenWord) → IsPlain option → (h : Held) → NoHelp (settle_fault (leaf gate_command).rules (leaf gate_command).args_override_self h) → Step (leaf gate_command) option h
     step (features true p) k h n = ((refl, refl, refl, refl), adding (leaf gate_command) h n, refl)
     step (features false p) k h n = let v = plain p k in rw (v.0, v.1, v.2) ((refl, refl, refl, refl), waiting (leaf gate_command) h n, refl)
     step allow_unrun k h n = ((refl, refl, refl, refl), once (leaf gate_command) h (codes "allow-unrun") n, refl)
@@ -146,7 +146,7 @@ pub leaf_like_audit : (name : Text) → IsPlainLeaf (leaf (command_like_audit na
 unfolding bundle_met walked flags_fault walk_fault
 leaf_like_audit name = record { step = step; is_leaf = refl }
   where
-    step : (option : Written) → IsPlain option → (h : Held) → NoHelp (settle_fault (leaf (command_like_audit name)).rules (leaf (command_like_audit name)).args_override_self h) → Step (leaf (command_like_audit name)) option h
+    step : (option : WrittenWord) → IsPlain option → (h : Held) → NoHelp (settle_fault (leaf (command_like_audit name)).rules (leaf (command_like_audit name)).args_override_self h) → Step (leaf (command_like_audit name)) option h
     step (features true p) k h n = ((refl, refl, refl, refl), refl, n)
     step (features false p) k h n = let v = plain p k in rw (v.0, v.1, v.2) ((refl, refl, refl, refl), refl, n)
     step allow_unrun k h n = ((refl, refl, refl, refl), refl, n)
@@ -168,7 +168,7 @@ pub cases_leaf : IsPlainLeaf (leaf cases_command)
 unfolding bundle_met walked flags_fault walk_fault
 cases_leaf = record { step = step; is_leaf = refl }
   where
-    step : (option : Written) → IsPlain option → (h : Held) → NoHelp (settle_fault (leaf cases_command).rules (leaf cases_command).args_override_self h) → Step (leaf cases_command) option h
+    step : (option : WrittenWord) → IsPlain option → (h : Held) → NoHelp (settle_fault (leaf cases_command).rules (leaf cases_command).args_override_self h) → Step (leaf cases_command) option h
     step (features true p) k h n = ((refl, refl, refl, refl), refl, n)
     step (features false p) k h n = let v = plain p k in rw (v.0, v.1, v.2) ((refl, refl, refl, refl), refl, n)
     step allow_unrun k h n = ((refl, refl, refl, refl), refl, n)
@@ -190,7 +190,7 @@ pub results_leaf : IsPlainLeaf (leaf results_command)
 unfolding bundle_met walked flags_fault walk_fault
 results_leaf = record { step = step; is_leaf = refl }
   where
-    step : (option : Written) → IsPlain option → (h : Held) → NoHelp (settle_fault (leaf results_command).rules (leaf results_command).args_override_self h) → Step (leaf results_command) option h
+    step : (option : WrittenWord) → IsPlain option → (h : Held) → NoHelp (settle_fault (leaf results_command).rules (leaf results_command).args_override_self h) → Step (leaf results_command) option h
     step (features true p) k h n = ((refl, refl, refl, refl), refl, n)
     step (features false p) k h n = let v = plain p k in rw (v.0, v.1, v.2) ((refl, refl, refl, refl), refl, n)
     step allow_unrun k h n = ((refl, refl, refl, refl), refl, n)
@@ -212,7 +212,7 @@ pub parse_leaf : IsPlainLeaf (leaf parse_command)
 unfolding bundle_met walked flags_fault walk_fault
 parse_leaf = record { step = step; is_leaf = refl }
   where
-    step : (option : Written) → IsPlain option → (h : Held) → NoHelp (settle_fault (leaf parse_command).rules (leaf parse_command).args_override_self h) → Step (leaf parse_command) option h
+    step : (option : WrittenWord) → IsPlain option → (h : Held) → NoHelp (settle_fault (leaf parse_command).rules (leaf parse_command).args_override_self h) → Step (leaf parse_command) option h
     step (features true p) k h n = ((refl, refl, refl, refl), refl, n)
     step (features false p) k h n = let v = plain p k in rw (v.0, v.1, v.2) ((refl, refl, refl, refl), refl, n)
     step allow_unrun k h n = ((refl, refl, refl, refl), refl, n)
@@ -234,7 +234,7 @@ pub compile_leaf : IsPlainLeaf (leaf compile_command)
 unfolding bundle_met walked flags_fault walk_fault
 compile_leaf = record { step = step; is_leaf = refl }
   where
-    step : (option : Written) → IsPlain option → (h : Held) → NoHelp (settle_fault (leaf compile_command).rules (leaf compile_command).args_override_self h) → Step (leaf compile_command) option h
+    step : (option : WrittenWord) → IsPlain option → (h : Held) → NoHelp (settle_fault (leaf compile_command).rules (leaf compile_command).args_override_self h) → Step (leaf compile_command) option h
     step (features true p) k h n = ((refl, refl, refl, refl), refl, n)
     step (features false p) k h n = let v = plain p k in rw (v.0, v.1, v.2) ((refl, refl, refl, refl), refl, n)
     step allow_unrun k h n = ((refl, refl, refl, refl), refl, n)

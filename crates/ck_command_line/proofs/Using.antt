@@ -13,18 +13,18 @@ use Rattle.clap.specs.Walk.{Held, Walk, arg_by_id, has_row, nothing_held, settle
 use Rattle.clap.specs.Simple.{Shape}
 use Rattle.clap.specs.Faults.{settle_fault, walk_fault}
 use Rattle.clap.specs.declared.error.kind.ErrorKind.TheVariants.{ArgumentConflict}
-use Rattle.ck_command_line.specs.Asked.{Written, features, allow_unrun, allow_unrun_tagged, no_retries, no_skips, no_stepless, no_undefined, strict, as_json, pending_passes, attempts_from, allow_redeclared, run}
+use Rattle.ck_command_line.specs.Asked.{WrittenWord, features, allow_unrun, allow_unrun_tagged, no_retries, no_skips, no_stepless, no_undefined, strict, as_json, pending_passes, attempts_from, allow_redeclared, run}
 use Rattle.ck_command_line.specs.Asked.{IsPlain, all_words, are_distinct, has_name, may_come_again, name_of, names_after, words_of}
 use Rattle.ck_command_line.proofs.Between.{IsBetween, goes_on, walk_fault-append}
 use Rattle.ck_command_line.proofs.Rows.{not_there, said_by}
 use Rattle.ck_command_line.proofs.Said.{said_all, text_of}
 
 -- an option of one of these names
-abbrev pub is_own : List Text → Written → Bool
+abbrev pub is_own : List Text → WrittenWord → Bool
 is_own names option = list_any (λ name. has_name name option) names
 
 -- the values that the words of an option give
-abbrev pub values_for : Written → List Text
+abbrev pub values_for : WrittenWord → List Text
 values_for (features is_one_word path) = path ∷ []
 values_for (allow_unrun_tagged is_one_word tag) = tag ∷ []
 values_for (attempts_from is_one_word number) = number ∷ []
@@ -32,7 +32,7 @@ values_for (run word) = word ∷ []
 values_for _ = []
 
 -- the option is there for the first time, or may come again
-abbrev pub IsNew : Written → List Row → Type 0
+abbrev pub IsNew : WrittenWord → List Row → Type 0
 IsNew option rows = may_come_again option ≡ false → all_of (name_of option) rows ≡ None
 
 -- ---- the faults of an option that isn't there yet
@@ -53,7 +53,7 @@ waiting settle n = rw n refl
 
 -- the names that may still come are new
 abbrev pub AreNew : List Text → List Row → Type 0
-AreNew names rows = (option : Written) → is_own names option ≡ true → IsNew option rows
+AreNew names rows = (option : WrittenWord) → is_own names option ≡ true → IsNew option rows
 
 pub none_held : (names : List Text) (rows : List Row) → rows ≡ [] → AreNew names rows
 none_held names rows e option own first = ap (all_of (name_of option)) e
@@ -76,14 +76,14 @@ none_left p (name ∷ names) = go (p name) refl (none_left p names)
     go true e more = more
     go false e more = rw e more
 
-other_name : (gone option : Written) (names : List Text) → list_any (λ name. has_name name option) (filter (λ name. not (has_name name gone)) names) ≡ true → has_name (name_of option) gone ≡ false
+other_name : (gone option : WrittenWord) (names : List Text) → list_any (λ name. has_name name option) (filter (λ name. not (has_name name gone)) names) ≡ true → has_name (name_of option) gone ≡ false
 other_name gone option names h =
     false_from_ne_true (has_name (name_of option) gone) (λ same.
     let is : name_of option ≡ name_of gone = (bytes_eq-Decides (name_of option) (name_of gone)).0 same in
     false≢true (sym (none_left (λ name. bytes_eq name (name_of gone)) names) ∙ subst (λ (n : Text). list_any (λ name. bytes_eq name n) (filter (λ name. not (has_name name gone)) names) ≡ true) is h))
 
 -- an option that may not come again has another name than one that may
-not_again : (option : Written) → may_come_again option ≡ false
+not_again : (option : WrittenWord) → may_come_again option ≡ false
     → (bytes_eq (name_of option) (codes "features") ≡ false) × (bytes_eq (name_of option) (codes "allow-unrun-tagged") ≡ false) × (bytes_eq (name_of option) (codes "run") ≡ false)
 not_again (features w p) h = absurd (true≢false h)
 not_again allow_unrun h = (refl, refl, refl)
@@ -101,9 +101,9 @@ not_again (run w) h = absurd (true≢false h)
 
 -- the names are some of these
 abbrev IsWithin : List Text → List Text → Type 0
-IsWithin names own = (option : Written) → is_own names option ≡ true → is_own own option ≡ true
+IsWithin names own = (option : WrittenWord) → is_own names option ≡ true → is_own own option ≡ true
 
-within_after : (gone : Written) (names own : List Text) → IsWithin names own → IsWithin (names_after gone names) own
+within_after : (gone : WrittenWord) (names own : List Text) → IsWithin names own → IsWithin (names_after gone names) own
 within_after gone names own within option h = within option (go (may_come_again gone) h)
   where
     go : (b : Bool) → is_own (if b then names else filter (λ name. not (has_name name gone)) names) option ≡ true → is_own names option ≡ true
@@ -119,19 +119,19 @@ and_right true b h = h
 and_right false b h = absurd (false≢true h)
 
 -- each of the options is one of the command's own
-own_each : (own names : List Text) (options : List Written) → IsWithin names own → are_distinct names options ≡ true → AllByRecursion (λ option. is_own own option ≡ true) options
+own_each : (own names : List Text) (options : List WrittenWord) → IsWithin names own → are_distinct names options ≡ true → AllByRecursion (λ option. is_own own option ≡ true) options
 own_each own names [] within d = tt
 own_each own names (option ∷ options) within d = (
   within option (and_left (is_own names option) (are_distinct (names_after option names) options) d),
   own_each own (names_after option names) options (within_after option names own within) (and_right (is_own names option) (are_distinct (names_after option names) options) d),
 )
 
-pub all_own : (own : List Text) (options : List Written) → are_distinct own options ≡ true → AllByRecursion (λ option. is_own own option ≡ true) options
+pub all_own : (own : List Text) (options : List WrittenWord) → are_distinct own options ≡ true → AllByRecursion (λ option. is_own own option ≡ true) options
 all_own own options d = own_each own own options (λ option h. h) d
 
 module _ (s : Shape) where
   -- the rule of an option, or of the runs
-  abbrev pub rule_for : Written → Rule
+  abbrev pub rule_for : WrittenWord → Rule
   rule_for option = unwrap_or (arg_by_id s.rules (name_of option)) (new_rule [])
 
   -- the rows so far, with the use of the option that is pending
@@ -149,37 +149,37 @@ module _ (s : Shape) where
   is_new name rows none = ap (λ b. b && not s.args_override_self) (not_there name rows none)
 
   -- what one option does: it is used, without a fault
-  abbrev pub Used : Written → Held → Type 0
+  abbrev pub Used : WrittenWord → Held → Type 0
   Used option h = IsBetween (fold (walked s.rules []) (walk_from h) (words_of option))
       × (rows_now (fold (walked s.rules []) (walk_from h) (words_of option)).held ≡ used (rule_for option) (values_for option) (rows_now h))
       × (walk_fault s [] (walk_from h) (words_of option) ≡ []) × (settling (fold (walked s.rules []) (walk_from h) (words_of option)).held ≡ [])
 
   -- what the rows hold of a name after it
-  abbrev pub Told : Written → Type 0
+  abbrev pub Told : WrittenWord → Type 0
   Told option = (name : Text) (rows : List Row) → IsNew option rows
       → all_of name (used (rule_for option) (values_for option) rows) ≡ said_by (has_name name option) (text_of option ∷ []) (all_of name rows)
 
   -- each of the options with these names is read
   pub record ReadsEach (own : List Text) : Type 0 where
-    pub uses : (option : Written) → is_own own option ≡ true → IsPlain option → (h : Held) → settling h ≡ [] → IsNew option (rows_now h) → Used option h
-    pub told : (option : Written) → is_own own option ≡ true → Told option
+    pub uses : (option : WrittenWord) → is_own own option ≡ true → IsPlain option → (h : Held) → settling h ≡ [] → IsNew option (rows_now h) → Used option h
+    pub told : (option : WrittenWord) → is_own own option ≡ true → Told option
 
   -- what a list of options does: each is used, without a fault
-  pub record AreUsed (options : List Written) (h : Held) : Type 0 where
+  pub record AreUsed (options : List WrittenWord) (h : Held) : Type 0 where
     pub rows : (name : Text) → all_of name (rows_now (fold (walked s.rules []) (walk_from h) (all_words options)).held) ≡ said_all name options (all_of name (rows_now h))
     pub no_fault : walk_fault s [] (walk_from h) (all_words options) ≡ []
     pub settles : settling (fold (walked s.rules []) (walk_from h) (all_words options)).held ≡ []
 
   -- what one option leaves of another name
-  untouched : (option : Written) → Told option → (name : Text) (rows : List Row) → IsNew option rows → has_name name option ≡ false → all_of name rows ≡ None → all_of name (used (rule_for option) (values_for option) rows) ≡ None
+  untouched : (option : WrittenWord) → Told option → (name : Text) (rows : List Row) → IsNew option rows → has_name name option ≡ false → all_of name rows ≡ None → all_of name (used (rule_for option) (values_for option) rows) ≡ None
   untouched option told name rows new other none =
       told name rows new ∙ ap (λ b. said_by b (text_of option ∷ []) (all_of name rows)) other ∙ none
 
-  by_filter : (gone : Written) → Told gone → (names : List Text) (rows : List Row) → IsNew gone rows → AreNew names rows → AreNew (filter (λ name. not (has_name name gone)) names) (used (rule_for gone) (values_for gone) rows)
+  by_filter : (gone : WrittenWord) → Told gone → (names : List Text) (rows : List Row) → IsNew gone rows → AreNew names rows → AreNew (filter (λ name. not (has_name name gone)) names) (used (rule_for gone) (values_for gone) rows)
   by_filter gone told names rows new all option h first =
       untouched gone told (name_of option) rows new (other_name gone option names h) (all option (in_filter (λ name. has_name name option) (λ name. not (has_name name gone)) names h) first)
 
-  left_new : (option : Written) → Told option → (names : List Text) (rows : List Row) → IsNew option rows → AreNew names rows → AreNew (names_after option names) (used (rule_for option) (values_for option) rows)
+  left_new : (option : WrittenWord) → Told option → (names : List Text) (rows : List Row) → IsNew option rows → AreNew names rows → AreNew (names_after option names) (used (rule_for option) (values_for option) rows)
   left_new (features w p) told names rows new all = λ option h first. untouched (features w p) told (name_of option) rows new (not_again option first).0 (all option h first)
   left_new allow_unrun told names rows new all = by_filter allow_unrun told names rows new all
   left_new (allow_unrun_tagged w t) told names rows new all = λ option h first. untouched (allow_unrun_tagged w t) told (name_of option) rows new (not_again option first).1 (all option h first)
@@ -194,7 +194,7 @@ module _ (s : Shape) where
   left_new allow_redeclared told names rows new all = by_filter allow_redeclared told names rows new all
   left_new (run w) told names rows new all = λ option h first. untouched (run w) told (name_of option) rows new (not_again option first).2 (all option h first)
 
-  use_each : (own : List Text) → ReadsEach own → (options : List Written) → AllByRecursion IsPlain options → (names : List Text) → IsWithin names own → are_distinct names options ≡ true → (h : Held) → settling h ≡ [] → AreNew names (rows_now h) → AreUsed options h
+  use_each : (own : List Text) → ReadsEach own → (options : List WrittenWord) → AllByRecursion IsPlain options → (names : List Text) → IsWithin names own → are_distinct names options ≡ true → (h : Held) → settling h ≡ [] → AreNew names (rows_now h) → AreUsed options h
   unfolding walk_fault
   use_each own reads [] k names within d h n all = record { rows = λ name. refl; no_fault = refl; settles = n }
   use_each own reads (option ∷ options) k names within d h n all =
@@ -220,7 +220,7 @@ module _ (s : Shape) where
       }
 
   -- any list of them, from the first word on
-  pub use_all : (own : List Text) → ReadsEach own → (options : List Written) → are_distinct own options ≡ true → AllByRecursion IsPlain options → settling nothing_held ≡ [] → rows_now nothing_held ≡ [] → AreUsed options nothing_held
+  pub use_all : (own : List Text) → ReadsEach own → (options : List WrittenWord) → are_distinct own options ≡ true → AllByRecursion IsPlain options → settling nothing_held ≡ [] → rows_now nothing_held ≡ [] → AreUsed options nothing_held
   use_all own reads options d k n none = use_each own reads options k own (λ option h. h) d nothing_held n (none_held own (rows_now nothing_held) none)
 
 pub no_faults_found : (a b c d : Kinds) → a ≡ [] → b ≡ [] → c ≡ [] → d ≡ [] → or_else (or_else a (or_else [] (or_else b (or_else c d)))) [] ≡ []

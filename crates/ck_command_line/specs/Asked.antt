@@ -11,7 +11,7 @@ use Rattle.cm_attempt.specs.declared.status.Policy.TheVariants.{Strict, PendingP
 use Rattle.cm_attempt.specs.Settings.{settings_of}
 use Rattle.cm_attempt.specs.declared.status.Settings.{Settings}
 use Rattle.cm_stream.specs.Release.{Conditions, each_runs, strict_conditions}
-use Rattle.ck_command_line.specs.CommandLine.{Asked, Asks, AsksFeatures, AsksNothing, AsksRuns}
+use Rattle.ck_command_line.specs.CommandLine.{Request, Asks, AsksFeatures, AsksNothing, AsksRuns}
 use Rattle.ck_command_line.specs.CommandLine.{CallsForHelp, Command, FeaturesGate, RunsGate}
 use Rattle.ck_command_line.specs.CommandLine.{ask_audit, ask_cases, ask_compile}
 use Rattle.ck_command_line.specs.CommandLine.{ask_gate, ask_parse, ask_results, asked_by}
@@ -22,7 +22,7 @@ use Rattle.ck_command_line.specs.declared.command_line.CaseForm.{CaseForm}
 use Rattle.ck_command_line.specs.declared.command_line.CaseForm.TheVariants.{Plain, Json}
 
 -- words that are these texts ask for this, or for nothing, and don't call for help
-abbrev pub Ask : List Text → Option Asked → Type 0
+abbrev pub Ask : List Text → Option Request → Type 0
 Ask texts asked = (words : List (Bor Text)) → map (λ w. w.now) words ≡ texts
     → (asked_by words ≡ asked) × (asks_for_help words ≡ false)
 
@@ -35,22 +35,22 @@ CallForHelp texts = (words : List (Bor Text)) → map (λ w. w.now) words ≡ te
 
 -- an option as it is written, or the name of a run; a path, a tag or the number follows `=` in the
 -- same word, or is a word of its own
-pub data Written : Type 0 where
-  features : (is_one_word : Bool) → (path : Text) → Written
-  allow_unrun : Written
-  allow_unrun_tagged : (is_one_word : Bool) → (tag : Text) → Written
-  no_retries : Written
-  no_skips : Written
-  no_stepless : Written
-  no_undefined : Written
-  strict : Written
-  as_json : Written
-  pending_passes : Written
-  attempts_from : (is_one_word : Bool) → (number : Text) → Written
-  allow_redeclared : Written
-  run : (word : Text) → Written
+pub data WrittenWord : Type 0 where
+  features : (is_one_word : Bool) → (path : Text) → WrittenWord
+  allow_unrun : WrittenWord
+  allow_unrun_tagged : (is_one_word : Bool) → (tag : Text) → WrittenWord
+  no_retries : WrittenWord
+  no_skips : WrittenWord
+  no_stepless : WrittenWord
+  no_undefined : WrittenWord
+  strict : WrittenWord
+  as_json : WrittenWord
+  pending_passes : WrittenWord
+  attempts_from : (is_one_word : Bool) → (number : Text) → WrittenWord
+  allow_redeclared : WrittenWord
+  run : (word : Text) → WrittenWord
 
-abbrev pub name_of : Written → Text
+abbrev pub name_of : WrittenWord → Text
 name_of (features is_one_word path) = codes "features"
 name_of allow_unrun = codes "allow-unrun"
 name_of (allow_unrun_tagged is_one_word tag) = codes "allow-unrun-tagged"
@@ -66,7 +66,7 @@ name_of allow_redeclared = codes "allow-redeclared"
 name_of (run word) = codes "run"
 
 -- its words
-abbrev pub words_of : Written → List Text
+abbrev pub words_of : WrittenWord → List Text
 words_of (features true path) = (codes "--features=" ++ path) ∷ []
 words_of (features false path) = codes "--features" ∷ path ∷ []
 words_of allow_unrun = codes "--allow-unrun" ∷ []
@@ -84,27 +84,27 @@ words_of (attempts_from false number) = codes "--attempts-from" ∷ number ∷ [
 words_of allow_redeclared = codes "--allow-redeclared" ∷ []
 words_of (run word) = word ∷ []
 
-abbrev pub all_words : List Written → List Text
+abbrev pub all_words : List WrittenWord → List Text
 all_words = flat_map words_of
 
-abbrev pub has_name : Text → Written → Bool
+abbrev pub has_name : Text → WrittenWord → Bool
 has_name name option = bytes_eq name (name_of option)
 
 -- `--features`, `--allow-unrun-tagged` and runs alone may be given several times
-abbrev pub may_come_again : Written → Bool
+abbrev pub may_come_again : WrittenWord → Bool
 may_come_again (features is_one_word path) = true
 may_come_again (allow_unrun_tagged is_one_word tag) = true
 may_come_again (run word) = true
 may_come_again _ = false
 
 -- the names that options may have after this one
-abbrev pub names_after : Written → List Text → List Text
+abbrev pub names_after : WrittenWord → List Text → List Text
 names_after option names =
     if may_come_again option then names else filter (λ name. not (has_name name option)) names
 
 -- each option has one of these names, and no two have the same one, but for those that may come
 -- again
-abbrev pub are_distinct : List Text → List Written → Bool
+abbrev pub are_distinct : List Text → List WrittenWord → Bool
 are_distinct names [] = true
 are_distinct names (option ∷ options) = list_any (λ name. has_name name option) names
     && are_distinct (names_after option names) options
@@ -116,7 +116,7 @@ is_option (c ∷ []) = false
 is_option (c ∷ d ∷ cs) = c == 45
 
 -- a path, a tag, a number or a run that is a word of its own isn't written like an option
-abbrev pub IsPlain : Written → Type 0
+abbrev pub IsPlain : WrittenWord → Type 0
 IsPlain (features false path) = is_option path ≡ false
 IsPlain (allow_unrun_tagged false tag) = is_option tag ≡ false
 IsPlain (attempts_from false number) = is_option number ≡ false
@@ -124,21 +124,21 @@ IsPlain (run word) = is_option word ≡ false
 IsPlain _ = ⊤
 
 -- an option of this name is there
-abbrev pub is_there : Text → List Written → Bool
+abbrev pub is_there : Text → List WrittenWord → Bool
 is_there name options = list_any (has_name name) options
 
 -- the policy that the options ask for
-abbrev pub policy_of : List Written → Policy
+abbrev pub policy_of : List WrittenWord → Policy
 policy_of options = if is_there (codes "pending-passes") options then PendingPasses else Strict
 
 -- the number that they give
-abbrev pub number_of : List Written → Option Text
+abbrev pub number_of : List WrittenWord → Option Text
 number_of [] = None
 number_of (attempts_from is_one_word number ∷ options) = Some number
 number_of (option ∷ options) = number_of options
 
 -- the settings that they ask for: none where the number is neither 0 nor 1
-abbrev pub settings_written : List Written → Option Settings
+abbrev pub settings_written : List WrittenWord → Option Settings
 settings_written options =
     option_map (λ first. record {
       policy = policy_of options;
@@ -147,13 +147,13 @@ settings_written options =
     }) (first_attempt_named (number_of options))
 
 -- the tags that they give, in their order
-abbrev pub tags_of : List Written → List Text
+abbrev pub tags_of : List WrittenWord → List Text
 tags_of [] = []
 tags_of (allow_unrun_tagged is_one_word tag ∷ options) = tag ∷ tags_of options
 tags_of (option ∷ options) = tags_of options
 
 -- what they ask of a run: `--strict` is four options at once
-abbrev pub asked_of_run : List Written → Conditions
+abbrev pub asked_of_run : List WrittenWord → Conditions
 asked_of_run options = record {
   is_part = false;
   allows_unrun = is_there (codes "allow-unrun") options;
@@ -165,45 +165,45 @@ asked_of_run options = record {
 }
 
 -- `--allow-unrun` and `--allow-unrun-tagged` are both there
-abbrev pub has_both_unrun : List Written → Bool
+abbrev pub has_both_unrun : List WrittenWord → Bool
 has_both_unrun options =
     is_there (codes "allow-unrun") options && is_there (codes "allow-unrun-tagged") options
 
 -- the conditions that they ask for: none where both of these are there, or a tag has no `@`
-abbrev pub conditions_written : List Written → Option Conditions
+abbrev pub conditions_written : List WrittenWord → Option Conditions
 conditions_written options =
     if has_both_unrun options then None
     else if list_all is_tag (tags_of options) then Some (asked_of_run options)
     else None
 
 -- the runs that they name, in their order
-abbrev pub runs_of : List Written → List Text
+abbrev pub runs_of : List WrittenWord → List Text
 runs_of [] = []
 runs_of (run word ∷ options) = word ∷ runs_of options
 runs_of (option ∷ options) = runs_of options
 
 -- the runs that they ask for: none where two are `-`
-abbrev pub runs_written : List Written → Option (List Text)
+abbrev pub runs_written : List WrittenWord → Option (List Text)
 runs_written options = if has_two_inputs (runs_of options) then None else Some (runs_of options)
 
 -- the paths that they give, in their order
-abbrev pub features_of : List Written → List Text
+abbrev pub features_of : List WrittenWord → List Text
 features_of [] = []
 features_of (features is_one_word path ∷ options) = path ∷ features_of options
 features_of (option ∷ options) = features_of options
 
 -- `--allow-unrun` and `--features` are both there
-abbrev pub has_unrun_with_features : List Written → Bool
+abbrev pub has_unrun_with_features : List WrittenWord → Bool
 has_unrun_with_features options =
     is_there (codes "allow-unrun") options && is_there (codes "features") options
 
 -- the paths that they ask for: none where both of these are there
-abbrev pub features_written : List Written → Option (List Text)
+abbrev pub features_written : List WrittenWord → Option (List Text)
 features_written options =
     if has_unrun_with_features options then None else Some (features_of options)
 
 -- the form that they ask for
-abbrev pub form_of : List Written → CaseForm
+abbrev pub form_of : List WrittenWord → CaseForm
 form_of options = if is_there (codes "json") options then Json else Plain
 
 -- how a command is used: its name, the names of its options, whether it takes runs, and what it
@@ -212,7 +212,7 @@ pub record Usage : Type 0 where
   pub name : Text
   pub options : List Text
   pub takes_runs : Bool
-  pub asks : Settings → Conditions → CaseForm → (runs paths : List Text) → Asked
+  pub asks : Settings → Conditions → CaseForm → (runs paths : List Text) → Request
 
 abbrev pub gate_usage : Usage
 gate_usage = record {
@@ -265,7 +265,7 @@ names_taken usage =
     if usage.takes_runs then codes "run" ∷ usage.options else usage.options
 
 -- what a command with these options and runs asks for
-abbrev pub asked_with : Usage → List Written → Option Asked
+abbrev pub asked_with : Usage → List WrittenWord → Option Request
 asked_with usage options =
     option_and_then (λ conditions. option_and_then (λ runs. option_and_then (λ paths. option_map
     (λ settings. usage.asks settings conditions (form_of options) runs paths)
@@ -277,7 +277,7 @@ asked_with usage options =
 -- nothing where the number is neither 0 nor 1, a tag has no `@`, `--allow-unrun` is there beside a
 -- path or a tag, or two runs are `-`.
 abbrev pub TakesItsOptions : Usage → Type 0
-TakesItsOptions usage = (options : List Written) → are_distinct (names_taken usage) options ≡ true
+TakesItsOptions usage = (options : List WrittenWord) → are_distinct (names_taken usage) options ≡ true
     → AllByRecursion IsPlain options
     → Ask (usage.name ∷ all_words options) (asked_with usage options)
 
@@ -306,7 +306,7 @@ pub record RunsAreWhole : Type 0 where
       → gate.asked.is_part ≡ false
 
 -- a gate, be it over standard input, over named runs or over feature files
-abbrev pub IsGate : Asked → Type 0
+abbrev pub IsGate : Request → Type 0
 IsGate (over_input (ask_gate settings asked)) = ⊤
 IsGate (over_input command) = ⊥
 IsGate (over_runs gate) = ⊤
@@ -314,12 +314,12 @@ IsGate (over_features gate) = ⊤
 
 -- Words of which the first is `gate` ask for a gate, or for nothing.
 abbrev pub GateAsksForGates : Type 0
-GateAsksForGates = (words : List (Bor Text)) (others : List Text) (asked : Asked)
+GateAsksForGates = (words : List (Bor Text)) (others : List Text) (asked : Request)
     → map (λ w. w.now) words ≡ codes "gate" ∷ others → asked_by words ≡ Some asked → IsGate asked
 
 -- Only words of which the first is `gate` ask for one.
 abbrev pub OnlyGateAsksForGates : Type 0
-OnlyGateAsksForGates = (words : List (Bor Text)) (asked : Asked) → asked_by words ≡ Some asked
+OnlyGateAsksForGates = (words : List (Bor Text)) (asked : Request) → asked_by words ≡ Some asked
     → IsGate asked → (others : List Text) × (map (λ w. w.now) words ≡ codes "gate" ∷ others)
 
 -- ---- words that ask for nothing
@@ -337,7 +337,7 @@ named_options = (gate_usage.name, gate_usage.options) ∷ named_options_over_inp
 -- with this word after the command, any of the options and any runs, nothing is asked for, whatever
 -- follows
 abbrev pub Refuses : (command word : Text) → Type 0
-Refuses command word = (options : List Written) → AllByRecursion IsPlain options
+Refuses command word = (options : List WrittenWord) → AllByRecursion IsPlain options
     → (others : List Text) → Ask (command ∷ all_words options ++ word ∷ others) None
 
 -- A command over standard input alone refuses a word that is no option, as the name of a run.

@@ -52,13 +52,13 @@ pub record FeaturesGate : Type 0 where
   pub runs : List Text
 
 -- what the words may ask for
-pub data Asked : Type 0 where
-  over_input : Command → Asked
-  over_runs : RunsGate → Asked
-  over_features : FeaturesGate → Asked
+pub data Request : Type 0 where
+  over_input : Command → Request
+  over_runs : RunsGate → Request
+  over_features : FeaturesGate → Request
 
 -- what is asked for, as the code holds it
-abbrev pub asked_of_choice : Choice → Asked
+abbrev pub asked_of_choice : Choice → Request
 asked_of_choice choice.Parse = over_input ask_parse
 asked_of_choice (choice.Compile uri) = over_input (ask_compile uri.now)
 asked_of_choice (choice.Audit settings) = over_input (ask_audit settings)
@@ -306,13 +306,13 @@ abbrev pub as_part : Conditions → Conditions
 as_part asked = record asked { is_part = true }
 
 -- a gate over these runs; where there is none it is over standard input
-abbrev pub gate_over_runs : Settings → Conditions → (runs : List Text) → Asked
+abbrev pub gate_over_runs : Settings → Conditions → (runs : List Text) → Request
 gate_over_runs settings asked [] = over_input (ask_gate settings asked)
 gate_over_runs settings asked (run ∷ runs) =
     over_runs (record { settings = settings; asked = asked; runs = run ∷ runs })
 
 -- a gate over these runs alone, or over these feature files and runs, of which each is a part then
-abbrev pub gate_over : Settings → Conditions → (runs paths : List Text) → Asked
+abbrev pub gate_over : Settings → Conditions → (runs paths : List Text) → Request
 gate_over settings asked runs [] = gate_over_runs settings asked runs
 gate_over settings asked runs (path ∷ paths) = over_features (record {
   settings = settings;
@@ -324,17 +324,17 @@ gate_over settings asked runs (path ∷ paths) = over_features (record {
 -- what `gate` asks by its settings, its conditions, its runs and its paths, where there is no
 -- mistake in them
 abbrev pub gate_asked : Option Settings → Option Conditions → (runs paths : Option (List Text))
-    → Option Asked
+    → Option Request
 gate_asked settings asked runs paths =
     option_and_then (λ conditions. option_and_then (λ named. option_and_then (λ given.
     option_map (λ s. gate_over s conditions named given) settings) paths) runs) asked
 
 -- what `cases` asks by its settings and in this form, where there is no mistake
-abbrev pub cases_asked : Option Settings → CaseForm → Option Asked
+abbrev pub cases_asked : Option Settings → CaseForm → Option Request
 cases_asked settings form = option_map (λ s. over_input (ask_cases s form)) settings
 
 -- what the command of this name asks for, with the values that come after it
-abbrev pub command_named : Text → List Row → Option Asked
+abbrev pub command_named : Text → List Row → Option Request
 command_named name rows =
     if bytes_eq name (codes "parse") then Some (over_input ask_parse)
     else if bytes_eq name (codes "compile") then option_map (λ uri. over_input (ask_compile uri))
@@ -348,7 +348,7 @@ command_named name rows =
     else if bytes_eq name (codes "cases") then cases_asked (settings_in rows) (form_in rows)
     else None
 
-abbrev pub subcommand_named : Option (Text × List Row) → Option Asked
+abbrev pub subcommand_named : Option (Text × List Row) → Option Request
 subcommand_named sub = option_and_then (λ s. command_named s.0 s.1) sub
 
 abbrev pub where_none : {A B : Type 0} → List A → Option B → Option B
@@ -357,12 +357,12 @@ where_none (x ∷ xs) found = None
 
 -- What the words ask for, the program's name first: that of the command that they name, where the
 -- command line has no fault.
-unfoldable pub asked_of : List Text → Option Asked
+unfoldable pub asked_of : List Text → Option Request
 asked_of words =
     where_none (fault_of command_app words) (subcommand_named (subcommand_of command_app words))
 
 -- what the words after the program's name ask for
-abbrev pub asked_by : List (Bor Text) → Option Asked
+abbrev pub asked_by : List (Bor Text) → Option Request
 asked_by words = asked_of (codes "cukecheck" ∷ map (λ w. w.now) words)
 
 -- they ask for this command over standard input
@@ -382,7 +382,7 @@ abbrev pub AsksNothing : List (Bor Text) → Type 0
 AsksNothing words = asked_by words ≡ None
 
 -- the words gave this, or memory ran out; words that ask for nothing gave nothing
-abbrev pub Chooses : Option Asked → Result Choice Refusal → Type 0
+abbrev pub Chooses : Option Request → Result Choice Refusal → Type 0
 Chooses (Some a) (Ok d) = asked_of_choice d ≡ a
 Chooses (Some a) (Err r) = r ≡ refusal.Memory
 Chooses None result = IsErr result

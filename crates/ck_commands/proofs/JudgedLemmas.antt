@@ -34,7 +34,7 @@ use Rattle.ck_command_line.specs.CommandLine.{ask_gate}
 use Rattle.ck_commands.specs.Gate.{ReportsHeld, ReportsRelease}
 use Rattle.ck_commands.specs.Judged.{AreStreams, IsReleasedAs, JudgesStream, JudgesRun, JudgesRuns, MarksStream, MarksStreams, ReleasedAs, added_counts, counted_by, counted_in, counts_made, is_run_in, no_counts, run_counts, run_report}
 use Rattle.ck_commands.specs.Output.{Report, report_made, trouble_report}
-use Rattle.ck_commands.specs.Runs.{OfHeard, Reading, ReadsRun, heard, named_text, named_texts, status_after, status_of_all, unnoted, unopened, unread}
+use Rattle.ck_commands.specs.Runs.{OfHeard, Reading, ReadsRun, heard, named_text, named_texts, status_after, status_of_all, unnoted, unopened, unread_input}
 use Rattle.ck_commands.specs.declared.command_gate.JudgedRun as made_run
 use Rattle.ck_commands.specs.declared.command_gate.GateCounts.{GateCounts}
 use Rattle.ck_commands.specs.declared.report.ExitStatus.{ExitStatus}
@@ -105,7 +105,7 @@ module _ (s : Settings) (asked : Conditions) (old new : Marks) where
   }
 
 -- a file of which nothing was read before was judged
-pub fresh_run : (s : Settings) (asked : Conditions) (old new : Marks) (i j : Input) (r : Report) (counts : GateCounts) → IsFresh i → JudgesStream s asked i j old new r counts → JudgesRun s asked (heard unread j) old new r counts
+pub fresh_run : (s : Settings) (asked : Conditions) (old new : Marks) (i j : Input) (r : Report) (counts : GateCounts) → IsFresh i → JudgesStream s asked i j old new r counts → JudgesRun s asked (heard unread_input j) old new r counts
 fresh_run s asked old new i j r counts fresh h = record {
   reports = from_fresh (ask_gate s asked) r i j fresh h.reported;
   texts = h.texts;

@@ -16,7 +16,7 @@ use Rattle.ck_commands.specs.Asked.{EachReleased, EachReleasedAs, HearsReleasedS
 use Rattle.ck_commands.specs.Judged.{AreStreams, ReleasedAs}
 use Rattle.ck_commands.specs.Output.{NoneFailed, Prints, Report, code_of, trouble_report}
 use Rattle.ck_commands.specs.Run.{IsReportOf, Reports, ShowsNone, Tells}
-use Rattle.ck_commands.specs.Runs.{GatesRuns, IsRunsReport, OfHeard, Reading, ReadsBy, ReadsRun, ReadsRuns, ReportEach, ReportsRun, heard, status_of_all, unnoted, unopened, unread}
+use Rattle.ck_commands.specs.Runs.{GatesRuns, IsRunsReport, OfHeard, Reading, ReadsBy, ReadsRun, ReadsRuns, ReportEach, ReportsRun, heard, status_of_all, unnoted, unopened, unread_input}
 use Rattle.ck_commands.specs.Standard.{GaveReleasedEach}
 use Rattle.ck_commands.specs.declared.report.ExitStatus.TheVariants as exit
 use Rattle.ck_commands.proofs.Ran.{done_of, is_done, not_both, was_printed}
@@ -125,7 +125,7 @@ pub reads_standard : (name : List ℕ) (i j : Input) → is_input name ≡ true 
 reads_standard name i j is = subst (λ (b : Bool). ReadsBy b name [] i j (heard i j)) (sym is) (refl, refl)
 
 -- what is heard of a file that wasn't read is heard from nothing on
-pub from_fresh_reads : (P : List ℕ → List ℕ → Type 0) (i j : Input) → IsFresh i → OfReads i j P → OfReads unread j P
+pub from_fresh_reads : (P : List ℕ → List ℕ → Type 0) (i j : Input) → IsFresh i → OfReads i j P → OfReads unread_input j P
 from_fresh_reads P i j fresh h = (
   h.0,
   record {
@@ -136,7 +136,7 @@ from_fresh_reads P i j fresh h = (
   h.2,
 )
 
-pub from_fresh_whole : (P : List ℕ → Type 0) (i j : Input) → IsFresh i → OfWhole i j P → OfWhole unread j P
+pub from_fresh_whole : (P : List ℕ → Type 0) (i j : Input) → IsFresh i → OfWhole i j P → OfWhole unread_input j P
 from_fresh_whole P i j fresh h = (
   h.0,
   record {
@@ -148,7 +148,7 @@ from_fresh_whole P i j fresh h = (
   h.3,
 )
 
-pub from_fresh : (c : Command) (r : Report) (i j : Input) → IsFresh i → IsReportOf c r i j → IsReportOf c r unread j
+pub from_fresh : (c : Command) (r : Report) (i j : Input) → IsFresh i → IsReportOf c r i j → IsReportOf c r unread_input j
 from_fresh c r i j fresh h = record {
   answer = λ none. from_fresh_reads (λ bytes rest. Reports c bytes r ⊎ (r ≡ trouble_report Memory)) i j fresh (h.answer (subst (λ (n : ℕ). NoneFailed n j.failed_calls) (sym fresh.unfailed) none));
   tells = λ other. from_fresh_reads (λ bytes rest. Tells c bytes rest r) i j fresh (h.tells other);

@@ -18,20 +18,20 @@ use Rattle.cm_stream.specs.declared.laws.Counts.{Counts}
 use Rattle.feature_paths.specs.FeaturePaths.{FindsFiles}
 use Rattle.files.specs.Looks.{PathLook}
 use Rattle.files.specs.Openings.{Opening}
-use Rattle.ck_command_line.specs.CommandLine.{Asked, FeaturesGate, RunsGate, asked_by, over_features, over_input, over_runs, is_input}
+use Rattle.ck_command_line.specs.CommandLine.{Request, FeaturesGate, RunsGate, asked_by, over_features, over_input, over_runs, is_input}
 use Rattle.ck_commands.specs.FeatureFiles.{FeatureFile, ReadsFiles}
 use Rattle.ck_commands.specs.FilesAsked.{GatesFeatures}
 use Rattle.ck_commands.specs.Judged.{ReleasedAs}
 use Rattle.ck_commands.specs.Output.{DeliversOne}
 use Rattle.ck_commands.specs.Run.{IsRefusal, Runs}
-use Rattle.ck_commands.specs.Runs.{GatesRuns, unread}
+use Rattle.ck_commands.specs.Runs.{GatesRuns, unread_input}
 
 -- the words ask for this
-abbrev pub AsksFor : List (Bor (List ℕ)) → Asked → Type 0
+abbrev pub AsksFor : List (Bor (List ℕ)) → Request → Type 0
 AsksFor words a = asked_by words ≡ Some a
 
 -- a command over standard input opens no file, and only a gate over feature files looks at paths
-abbrev pub Leaves : Asked → (code : ℕ) → (old new : List Opening) → (seen later : List PathLook)
+abbrev pub Leaves : Request → (code : ℕ) → (old new : List Opening) → (seen later : List PathLook)
     → (i j : Input) → (before after : Output) → Type 0
 Leaves (over_input c) code old new seen later i j before after =
     (new ≡ old) × (later ≡ seen) × Runs c code i j before after
@@ -64,7 +64,7 @@ ReleasedBy true is_released others name noted i = (k : Input) × is_released i k
 ReleasedBy false is_released others name noted i =
     (input : Input) × (rest : List Opening)
     × (noted ≡ record { name = name; input = Some input } ∷ rest)
-    × is_released unread input × others rest i
+    × is_released unread_input input × others rest i
 
 abbrev pub EachReleased : Settings → Conditions → (names : List (List ℕ)) → (noted : List Opening)
     → (i j : Input) → Type 0

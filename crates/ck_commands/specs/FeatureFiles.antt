@@ -14,7 +14,7 @@ use Rattle.files.specs.Openings.{Opening}
 use Rattle.gk_grammar.specs.Documents.{max_bytes}
 use Rattle.ck_commands.specs.Features.{IsNoText}
 use Rattle.ck_commands.specs.Output.{Report}
-use Rattle.ck_commands.specs.Runs.{unread}
+use Rattle.ck_commands.specs.Runs.{unread_input}
 use Rattle.ck_commands.specs.TextInput.{IsTextOf}
 use Rattle.ck_commands.specs.declared.report.ExitStatus.TheVariants.{Trouble}
 
@@ -27,8 +27,8 @@ pub record FeatureFile : Type 0 where
 
 -- all bytes that a file gave are this text, or there are too many
 abbrev pub GivesText : Input → Option Utf8 → Type 0
-GivesText input (Some text) = OfWhole unread input (λ bytes. IsTextOf bytes text)
-GivesText input None = OfInput unread input (λ bytes. max_bytes < length bytes)
+GivesText input (Some text) = OfWhole unread_input input (λ bytes. IsTextOf bytes text)
+GivesText input None = OfInput unread_input input (λ bytes. max_bytes < length bytes)
 
 -- the file was opened by its path, once, and gave that
 abbrev pub WasRead : FeatureFile → Opening → Type 0
@@ -60,7 +60,7 @@ FailsToRead path noted ReadFailed =
     × (input.failed_calls ≢ 0))
 FailsToRead path noted NotUtf8 =
     (input : Input) × (noted ≡ record { name = path; input = Some input } ∷ [])
-    × OfInput unread input IsNoText
+    × OfInput unread_input input IsNoText
 FailsToRead path noted LinkedFolder = ⊥
 FailsToRead path noted NoFeatures = ⊥
 

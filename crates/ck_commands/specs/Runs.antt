@@ -30,15 +30,15 @@ OfHeard P unnoted = ⊥
 OfHeard P (heard before after) = P before after
 
 -- a file of which nothing was read yet
-abbrev pub unread : Input
-unread = record { heard = []; is_over = false; to_come = None; failed_calls = 0 }
+abbrev pub unread_input : Input
+unread_input = record { heard = []; is_over = false; to_come = None; failed_calls = 0 }
 
 -- the openings by which the reading of a file of this name is noted
 abbrev pub NotesReading : (name : List ℕ) → (noted : List Opening) → Reading → Type 0
 NotesReading name noted unopened = noted ≡ record { name = name; input = None } ∷ []
 NotesReading name noted unnoted = noted ≡ []
 NotesReading name noted (heard before after) =
-    (before ≡ unread) × (noted ≡ record { name = name; input = Some after } ∷ [])
+    (before ≡ unread_input) × (noted ≡ record { name = name; input = Some after } ∷ [])
 
 -- a run is read from standard input, or else from the file of its name
 abbrev pub ReadsBy : (standard : Bool) → (name : List ℕ) → (noted : List Opening)

@@ -1,7 +1,7 @@
 //! The program with its words: which command they choose, and `audit`.
 ghost use Rattle.std.specs.Prelude.{◌≡◌, ◌≢◌, ◌∷◌, IfOk, List, codes, map, Ok};
 ghost use Rattle.cm_envelope.specs.Device.{OfInput, OfReads};
-ghost use Rattle.ck_command_line.specs.CommandLine.{Asked, Asks, AsksFeatures, AsksNothing, AsksRuns, Command, FeaturesGate, RunsGate};
+ghost use Rattle.ck_command_line.specs.CommandLine.{Request, Asks, AsksFeatures, AsksNothing, AsksRuns, Command, FeaturesGate, RunsGate};
 ghost use Rattle.ck_command_line.specs.CommandLine.{asked_of_choice, CallsForHelp, ask_gate, ask_audit};
 ghost use Rattle.files.specs.Openings.{Opening};
 ghost use Rattle.ck_commands.specs.Asked.{AsksFor, EachReleased, Leaves, LeavesAlone, ReleasesEach, ReleasesFeatures};
@@ -103,7 +103,7 @@ pub fn run_with<F: Files, R: ByteSource, W: ByteSink>(
     sink: &mut W,
 ) -> u8
     // Of a command over standard input all that `run` says; of a gate over runs the report of each.
-    ensures asked { (a : Asked) → AsksFor words.now a
+    ensures asked { (a : Request) → AsksFor words.now a
         → Leaves a result (F.openings files.old) (F.openings files.new)
         (F.looks files.old) (F.looks files.new)
         (R.input source.old) (R.input source.new) (W.output sink.old) (W.output sink.new) }

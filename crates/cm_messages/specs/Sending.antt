@@ -16,6 +16,6 @@ SendsOptional name None old new = new ≡ old
 SendsOptional name (Some d) old new = SendsMember name d old new
 
 -- how many values there are
-abbrev pub present : {A : Type 0} → Option A → ℕ
-present None = 0
-present (Some x) = 1
+abbrev pub option_count : {A : Type 0} → Option A → ℕ
+option_count None = 0
+option_count (Some x) = 1

@@ -4,7 +4,7 @@ ghost use Rattle.serde.specs.Event.{WritesEach};
 ghost use Rattle.serde_json.specs.Data.{Data, number, string, unsigned, array};
 ghost use Rattle.serde_json.specs.Events.{SendsValue};
 ghost use Rattle.cm_messages.specs.Layout.{object_of, id_data, list_data, media_data};
-ghost use Rattle.cm_messages.specs.Sending.{SendsMember, SendsOptional, present};
+ghost use Rattle.cm_messages.specs.Sending.{SendsMember, SendsOptional, option_count};
 ghost use Rattle.serde_json.specs.Written.{compact_text, has_float};
 ghost use Rattle.cm_messages.specs.PickleLayout.{pickle_cell_data, pickle_row_data};
 
@@ -150,7 +150,7 @@ pub fn send_list_member<Layout, T: SendJson<Layout>, S: Serializer>(
 
 /// 1 where there is a value, and else 0: how many members it comes to.
 pub fn one_if<T>(value: &Option<T>) -> usize
-    ensures is { result ≡ present value.now }
+    ensures is { result ≡ option_count value.now }
     ensures few { result ≤ 1 }
 {
     match value {

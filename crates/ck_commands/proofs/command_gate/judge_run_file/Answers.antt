@@ -1,7 +1,7 @@
 use Rattle.std.proofs.Common.{◌∙◌, ◌∷◌, ◌++◌, [], List, ℕ, Some, refl, sym, ap, append-nil, string_bytes}
 use Rattle.cm_stream.specs.Release.{conditions_of}
 use Rattle.files.specs.Openings.{Opening}
-use Rattle.ck_commands.specs.Runs.{heard, unnoted, unread}
+use Rattle.ck_commands.specs.Runs.{heard, unnoted, unread_input}
 use Rattle.ck_commands.proofs.JudgedLemmas.{fresh_run, memory_run}
 use Rattle.ck_commands.proofs.RunsReleased.{unnoted_opening}
 use Rattle.ck_commands.proofs.command_gate.judge_run_file.Goals as goal
@@ -10,7 +10,7 @@ pub returns-in-Ok-close-clause-judged : goal.returns-in-Ok-close-clause-judged
 returns-in-Ok-close-clause-judged g c =
     let after = g.F.Source.ByteSource.input c.judge_opened_run-run.new.source in (
       record { name = c.args.name.now; input = Some after } ∷ [],
-      heard unread after,
+      heard unread_input after,
       c.in-Ok-close.ensures.noted ∙ ap (λ (l : List Opening). l ++ record { name = string_bytes c.in-Ok.file.name; input = Some after } ∷ []) c.in-Ok.ensures.noted
           ∙ ap (λ (n : List ℕ). g.F.Files.openings c.args.files.now ++ record { name = n; input = Some after } ∷ []) c.in-Ok.ensures.name,
       (refl, refl),
