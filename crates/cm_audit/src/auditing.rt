@@ -27,8 +27,9 @@ use crate::stop::Stop;
 use cm_attempt::{Policy, Settings, Track, TrackFault};
 use cm_envelope::{
     ByteSource, Envelope, EnvelopeFault, Feed, TestCase, TestCaseFinished, TestCaseStarted,
-    TestStepFinished, TestStepStarted, Trouble, is_blank_line, read_envelope,
+    TestStepFinished, TestStepStarted, Trouble, is_blank_line,
 };
+use cm_reading::read_envelope;
 use cm_stream::{Audited, StreamFault, Verdict};
 use std::alloc::{AllocError, Global};
 use std::hash::RandomState;

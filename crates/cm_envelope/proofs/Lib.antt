@@ -6,8 +6,5 @@ pub mod Finding
 pub mod Sources
 pub mod Taking
 pub mod Answering
-pub mod Each
-pub mod Judged
 pub mod Json
 pub mod Writes
-pub mod Walking

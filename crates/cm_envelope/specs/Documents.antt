@@ -20,17 +20,16 @@ use Rattle.gk_document.specs.declared.tree.Examples.{Examples}
 use Rattle.gk_document.specs.declared.tree.Scenario.{Scenario}
 use Rattle.gk_document.specs.declared.tree.Rule.{Rule}
 use Rattle.gk_document.specs.declared.tree.Feature.{Feature}
-use Rattle.cm_envelope.specs.declared.fault.MemberFault.{MemberFault}
 use Rattle.cm_envelope.specs.declared.envelope.GherkinDocument.{GherkinDocument}
-use Rattle.cm_envelope.specs.declared.read_documents.DataTable.{DataTable}
-use Rattle.cm_envelope.specs.declared.read_documents.Mark.{Mark}
-use Rattle.cm_envelope.specs.declared.read_documents.Title.{Title}
-use Rattle.cm_envelope.specs.declared.read_documents.Heading.{Heading}
-use Rattle.cm_envelope.specs.declared.read_documents.TaggedHeading.{TaggedHeading}
-use Rattle.cm_envelope.specs.declared.read_documents.Body.{Body}
-use Rattle.cm_envelope.specs.declared.read_documents.FeatureHeading.{FeatureHeading}
-use Rattle.cm_envelope.specs.declared.read_documents.FeatureBody.{FeatureBody}
-use Rattle.cm_envelope.specs.Member.{◌>>=◌, FailsAtMember, NamedMember, member_of, all_items, good, required_in, required_member, nested_in, nested_member, optional_nested_in, list_of, items_in, present_member, rule, media_type_member, as_whole_number}
+use Rattle.cm_envelope.specs.declared.parts.DataTable.{DataTable}
+use Rattle.cm_envelope.specs.declared.parts.Mark.{Mark}
+use Rattle.cm_envelope.specs.declared.parts.Title.{Title}
+use Rattle.cm_envelope.specs.declared.parts.Heading.{Heading}
+use Rattle.cm_envelope.specs.declared.parts.TaggedHeading.{TaggedHeading}
+use Rattle.cm_envelope.specs.declared.parts.Body.{Body}
+use Rattle.cm_envelope.specs.declared.parts.FeatureHeading.{FeatureHeading}
+use Rattle.cm_envelope.specs.declared.parts.FeatureBody.{FeatureBody}
+use Rattle.cm_envelope.specs.Member.{◌>>=◌, NamedMember, member_of, all_items, good, required_in, required_member, nested_in, nested_member, optional_nested_in, list_of, items_in, present_member, rule, media_type_member, as_whole_number}
 
 abbrev pub Ids : Type 0
 Ids = List (List ℕ)
@@ -38,11 +37,6 @@ Ids = List (List ℕ)
 -- what was read, and the ids up to its end
 abbrev pub NodeRead : Type 0 → Type 0
 NodeRead A = Result (A × Ids) (List ℕ)
-
--- What a function returned, and the ids that it left, are what reading gives, unless memory ran out.
-abbrev pub GivesNode : {A : Type 0} → Result A MemberFault → Ids → NodeRead A → Type 0
-GivesNode (Ok x) ids reading = reading ≡ Ok (x, ids)
-GivesNode (Err e) ids reading = FailsAtMember e reading
 
 -- ---- nodes and lists of them
 

@@ -6,7 +6,6 @@
 -- Feeds: what a feed stores between two calls, and what one call does to it
 -- Held: what a window holds
 -- Member: reading the members of a JSON object
--- Members: members of an object that are looked for by one walk
 -- Envelopes: the members of each envelope, in the order in which they are read
 -- Pickles: the members of a pickle and of the objects in it, in the order in which they are read
 -- Documents: reading a feature's tree, in which the nodes have ids
@@ -18,7 +17,6 @@ pub mod Lines
 pub mod Feeds
 pub mod Held
 pub mod Member
-pub mod Members
 pub mod Envelopes
 pub mod Pickles
 pub mod Documents

@@ -3,28 +3,11 @@ use Rattle.std.specs.Prelude.{◌≡◌, ℕ, List, [], ◌∷◌, codes, Bool, 
 use Rattle.serde_json.specs.Data.{Data, Items, no_items, item}
 use Rattle.serde_json.specs.Find.{get, as_str, as_null, as_number, as_u64, as_array, as_object}
 use Rattle.gk_document.specs.MediaType.{unless_empty}
-use Rattle.cm_envelope.specs.declared.fault.MemberFault.{MemberFault}
-use Rattle.cm_envelope.specs.declared.fault.MemberFault.TheVariants.{Bad, Memory}
 
 infixl 10 ◌>>=◌
 abbrev pub ◌>>=◌ : {A B E : Type 0} → Result A E → (A → Result B E) → Result B E
 (Ok x) >>= f = f x
 (Err e) >>= f = Err e
-
--- What a function returned is what reading gives, unless memory ran out.
-abbrev pub FailsAtMember : {A : Type 0} → MemberFault → Result A (List ℕ) → Type 0
-FailsAtMember (Bad name) reading = reading ≡ Err name.now
-FailsAtMember Memory reading = Unit {0}
-
-abbrev pub GivesMember : {A : Type 0} → Result A MemberFault → Result A (List ℕ) → Type 0
-GivesMember (Ok x) reading = reading ≡ Ok x
-GivesMember (Err e) reading = FailsAtMember e reading
-
--- the same of a value that is seen by view
-abbrev pub GivesMemberOf : {A B : Type 0} → (A → B) → Result A MemberFault → Result B (List ℕ)
-    → Type 0
-GivesMemberOf view (Ok x) reading = reading ≡ Ok (view x)
-GivesMemberOf view (Err e) reading = FailsAtMember e reading
 
 -- Null is absence.
 abbrev pub unless_null : Data → Option Data

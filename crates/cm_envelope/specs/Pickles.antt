@@ -14,8 +14,8 @@ use Rattle.cm_envelope.specs.declared.pickle.PickleTable.{PickleTable}
 use Rattle.cm_envelope.specs.declared.pickle.PickleRow.{PickleRow}
 use Rattle.cm_envelope.specs.declared.pickle.PickleCell.{PickleCell}
 use Rattle.cm_envelope.specs.declared.pickle.PickleDocString.{PickleDocString}
-use Rattle.cm_envelope.specs.declared.read_pickles.PickleTexts.{PickleTexts}
-use Rattle.cm_envelope.specs.declared.read_pickles.PickleLists.{PickleLists}
+use Rattle.cm_envelope.specs.declared.parts.PickleTexts.{PickleTexts}
+use Rattle.cm_envelope.specs.declared.parts.PickleLists.{PickleLists}
 use Rattle.cm_envelope.specs.Member.{◌>>=◌, NamedMember, member_of, present_member, required_in, required_member, optional_member, optional_nested_in, optional_nested_member, list_in, list_of, values_in, list_of_values, rule, has_both, media_type_member}
 
 -- Messages: PickleStepType

@@ -1,5 +1,4 @@
 //! Why the envelope of a line is not given.
-use std::alloc::{AllocError, AllocFailed};
 use thiserror::Error;
 
 /// What is wrong with a line that has no envelope.
@@ -25,33 +24,4 @@ pub enum EnvelopeFault {
     /// There is no memory for it.
     #[error("out of memory")]
     Memory,
-}
-
-/// Why an object could not be read: the name of its first bad member, or want of memory.
-#[derive(Drop)]
-pub(crate) enum MemberFault {
-    Bad(&'static str),
-    Memory,
-}
-
-impl From<AllocError> for MemberFault {
-    ghost use Rattle.std.specs.Prelude.{◌≡◌};
-    ghost use Rattle.cm_envelope.specs.declared.fault.MemberFault.TheVariants.{Memory};
-
-    ghost from_gives = { λ _ e. e ≡ Memory };
-
-    fn from(_refused: AllocError) -> MemberFault {
-        MemberFault::Memory
-    }
-}
-
-impl<T: Drop> From<AllocFailed<T>> for MemberFault {
-    ghost use Rattle.std.specs.Prelude.{◌≡◌};
-    ghost use Rattle.cm_envelope.specs.declared.fault.MemberFault.TheVariants.{Memory};
-
-    ghost from_gives = { λ _ e. e ≡ Memory };
-
-    fn from(_refused: AllocFailed<T>) -> MemberFault {
-        MemberFault::Memory
-    }
 }

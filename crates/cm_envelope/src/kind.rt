@@ -2,7 +2,7 @@
 
 /// The judged kinds of envelope.
 #[derive(Clone, Copy)]
-pub(crate) enum Kind {
+pub enum Kind {
     Source,
     GherkinDocument,
     ParseError,
@@ -26,7 +26,7 @@ impl Kind {
     ghost use Rattle.cm_envelope.specs.Reading.{kind_name, kind_named};
 
     /// The kind whose member in an envelope has this name.
-    pub(crate) fn named(name: &str) -> Option<Kind>
+    pub fn named(name: &str) -> Option<Kind>
         ensures { result ≡ kind_named name.now }
     {
         match name {
@@ -51,7 +51,7 @@ impl Kind {
     }
 
     /// The name of the kind's member in an envelope.
-    pub(crate) fn name(self) -> &'static str
+    pub fn name(self) -> &'static str
         ensures { result.now ≡ kind_name self }
     {
         match self {

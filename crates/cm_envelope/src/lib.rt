@@ -1,22 +1,23 @@
-//! Streams of Cucumber Messages: the devices that they are read from and written to, their lines, and the envelopes of the
-//! lines.
+//! Streams of Cucumber Messages: the devices that they are read from and written to, their lines, and the envelopes that
+//! lines may have.
 //!
 //! ```
-//! use cm_envelope::{ByteSource, Envelope, Feed, EnvelopeFault, read_envelope};
+//! use cm_envelope::{ByteSource, Feed, Trouble, is_blank_line};
 //! use std::alloc::Global;
 //!
-//! fn first<S: ByteSource>(alloc: Global, source: &mut S) -> Result<Option<Envelope>, EnvelopeFault> {
+//! fn begins_blank<S: ByteSource>(alloc: Global, source: &mut S) -> Result<bool, Trouble> {
 //!     let mut feed = Feed::new(alloc);
-//!     match feed.next_line(source) {
-//!         Ok(Some(line)) => Ok(Some(read_envelope(alloc, line)?)),
-//!         Ok(None) | Err(_) => Ok(None),
+//!     match feed.next_line(source)? {
+//!         Some(line) => Ok(is_blank_line(line)),
+//!         None => Ok(false),
 //!     }
 //! }
 //! ```
 //!
 //! `Reader` and `Writer` make a device of a reader and a writer of std, `Feed` cuts the bytes into lines within limits,
 //! `is_blank_line` finds the lines that have no envelope, and `write_all` writes. `Heard` and
-//! `Taken` are what a device of your own remembers for the clauses, `Reads` what one over a reader does.
+//! `Taken` are what a device of your own remembers for the clauses, `Reads` what one over a reader does. The envelope of a line is
+//! defined here, and read by `cm_reading`; `Kind` and the parts of trees and pickles are what it is read by.
 #![tactic(auto)]
 
 mod device;
@@ -24,12 +25,9 @@ mod envelope;
 mod fault;
 mod feed;
 mod kind;
-mod member;
 mod node_id;
+mod parts;
 mod pickle;
-mod read_documents;
-mod read_envelopes;
-mod read_pickles;
 mod record;
 mod window;
 
@@ -44,10 +42,14 @@ pub use envelope::{
 };
 pub use fault::{EnvelopeFault, LineFault};
 pub use feed::{Feed, LINE_LIMIT, STREAM_LIMIT, Trouble, is_blank_line};
+pub use kind::Kind;
 pub use node_id::{NodeId, id_of};
+pub use parts::{
+    Body, DataTable, FeatureBody, FeatureHeading, Heading, Mark, PickleLists, PickleTexts,
+    TaggedHeading, Title,
+};
 pub use pickle::{
     Pickle, PickleArgument, PickleCell, PickleDocString, PickleRow, PickleStep, PickleTable,
     PickleTag, StepKind,
 };
-pub use read_envelopes::read_envelope;
 pub use record::{Heard, Taken};

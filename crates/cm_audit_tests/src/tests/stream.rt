@@ -1,6 +1,7 @@
 //! A stream in which each call finds something to tell: a feature file with two scenarios, of which the first failed and the second
 //! has no test case, another that is refused, a run hook that failed, one that isn't finished, and an exception.
-use cm_envelope::{Envelope, EnvelopeFault, read_envelope};
+use cm_envelope::{Envelope, EnvelopeFault};
+use cm_reading::read_envelope;
 use cm_reasons::Trail;
 use std::alloc::Global;
 use std::test::Fail;

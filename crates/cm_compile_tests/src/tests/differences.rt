@@ -1,7 +1,8 @@
 //! In what streams differ from what their sources' texts compile to.
 use crate::tests::compiled::PLAIN_TEXT;
 use cm_differs::{Difference, pickle_difference, tree_difference};
-use cm_envelope::{Envelope, EnvelopeFault, NodeId, Pickle as FoundPickle, read_envelope};
+use cm_envelope::{Envelope, EnvelopeFault, NodeId, Pickle as FoundPickle};
+use cm_reading::read_envelope;
 use gk_document::{Document, Text};
 use gk_pickle::{Pickle, compile};
 use gk_tree::parse;

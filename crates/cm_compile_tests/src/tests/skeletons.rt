@@ -1,6 +1,7 @@
 //! Documents of a stream beside the document of a text.
 use crate::tests::compiled::PLAIN_TEXT;
-use cm_envelope::{Envelope, EnvelopeFault, read_envelope};
+use cm_envelope::{Envelope, EnvelopeFault};
+use cm_reading::read_envelope;
 use gk_document::{Document, same_skeleton};
 use gk_tree::parse;
 use std::alloc::Global;

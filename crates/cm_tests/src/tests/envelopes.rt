@@ -1,5 +1,6 @@
 //! The envelopes of single lines.
-use cm_envelope::{Envelope, EnvelopeFault, LineFault, Status, TestCase, read_envelope};
+use cm_envelope::{Envelope, EnvelopeFault, LineFault, Status, TestCase};
+use cm_reading::read_envelope;
 use std::alloc::{AllocError, Global};
 use std::process::Abort;
 use std::test::Fail;

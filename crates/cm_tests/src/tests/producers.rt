@@ -2,8 +2,9 @@
 use crate::tests::envelopes::word_of;
 use cm_envelope::{
     Envelope, EnvelopeFault, GherkinDocument, NodeId, Pickle, PickleStep, StepKind, TestCase,
-    TestRunFinished, TestStep, read_envelope,
+    TestRunFinished, TestStep,
 };
+use cm_reading::read_envelope;
 use gk_document::Text;
 use std::alloc::{AllocError, Global};
 use std::process::Abort;

@@ -2,7 +2,8 @@
 use crate::tests::meeting::{Came, SMALL, meet, right_if};
 use crate::tests::streams::PLAIN_TEXT;
 use cm_differs::{Difference, pickle_difference, tree_difference};
-use cm_envelope::{Envelope, EnvelopeFault, Pickle, read_envelope};
+use cm_envelope::{Envelope, EnvelopeFault, Pickle};
+use cm_reading::read_envelope;
 use gk_document::{Document, Text};
 use gk_pickle::{Pickle as DuePickle, compile};
 use gk_tree::parse;

@@ -2,7 +2,8 @@
 use crate::tests::meeting::{Came, PIECES, SMALL, meet_alone, right_if};
 use cm_audit::{Counts, Verdict, audit};
 use cm_compile::{CompileFault, write_compiled};
-use cm_envelope::{Envelope, EnvelopeFault, NodeId, Trouble, read_envelope};
+use cm_envelope::{Envelope, EnvelopeFault, NodeId, Trouble};
+use cm_reading::read_envelope;
 use devices::{Compared, Pieces};
 use seeds::fixed_seed;
 use std::alloc::Global;

@@ -1,8 +1,0 @@
-use Rattle.std.proofs.Common.{◌≡◌}
-use Rattle.serde_json.specs.View.{items_view}
-use Rattle.cm_envelope.specs.Documents.{each_node, node_in}
-use Rattle.cm_envelope.proofs.Each.{with_nodes, items_from}
-use Rattle.cm_envelope.proofs.member.member_nodes.Given as goal
-
-abbrev pub invariant-loop-value : goal.invariant-loop-value
-invariant-loop-value g l = with_nodes l.nodes (each_node (node_in l.name g.T.ReadNode.reads) l.ids (items_from l.value-index l.values)) ≡ each_node (node_in l.name g.T.ReadNode.reads) l.fn.ids (items_view l.values)

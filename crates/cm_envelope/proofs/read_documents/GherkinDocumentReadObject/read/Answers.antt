@@ -1,5 +1,0 @@
-use Rattle.std.proofs.Common.{rules}
-use Rattle.cm_envelope.proofs.read_documents.GherkinDocumentReadObject.read.Goals as goal
-
-pub returns : goal.returns
-returns c = search rules
