@@ -1,15 +1,14 @@
 -- What is told where a run says of its success what isn't so.
-use Rattle.std.proofs.Common.{◌≡◌, ◌∙◌, refl, sym, ap, List, [], ◌∷◌, ◌++◌, Option, None, Some, Bool, true, false, not, ◌&&◌, ⊎_elim}
+use Rattle.std.proofs.Common.{◌≡◌, ◌∙◌, refl, sym, ap, List, [], ◌∷◌, ◌++◌, None, Some, Bool, true, false, not, ◌&&◌, ⊎_elim}
 use Rattle.std.specs.Prelude.{◌↔◌}
 use Rattle.std.specs.List.{AllByRecursion}
 use Rattle.std.proofs.lemmas.Bool.{cases_Bool}
 use Rattle.cm_attempt.specs.declared.status.Policy.{Policy}
-use Rattle.cm_attempt.specs.declared.status.Settings.{Settings}
 use Rattle.cm_envelope.specs.declared.envelope.Envelope.{Envelope}
 use Rattle.cm_envelope.specs.declared.envelope.Envelope.TheVariants as envelope
 use Rattle.cm_envelope.specs.declared.envelope.TestRunFinished.{TestRunFinished}
 use Rattle.cm_stream.specs.ByOnePass.{all_well, plain_checks}
-use Rattle.cm_stream.specs.Checks.{Check, fault_by, first_failed, same_flag, ◌if◌}
+use Rattle.cm_stream.specs.Checks.{Check, first_failed, same_flag, ◌if◌}
 use Rattle.cm_stream.specs.Findings.{Finding, IsBad, SuccessDiffers}
 use Rattle.cm_stream.specs.Good.{AllWell}
 use Rattle.cm_stream.specs.OnePass.{reads}

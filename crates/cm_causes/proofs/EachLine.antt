@@ -1,5 +1,5 @@
 -- Each test case that isn't good, each run hook that didn't end so, each refused source and an exception has its line.
-use Rattle.std.proofs.Common.{◌≡◌, ◌∙◌, refl, sym, ap, subst, ℕ, Bool, true, false, not, List, [], ◌∷◌, ◌++◌, Option, None, Some, ⊎_elim, append_assoc}
+use Rattle.std.proofs.Common.{◌≡◌, sym, ap, subst, ℕ, not, List, [], ◌∷◌, ◌++◌, ⊎_elim}
 use Rattle.std.specs.Prelude.{option_map}
 use Rattle.std.specs.List.{Contains}
 use Rattle.cm_envelope.specs.declared.envelope.Source.{Source}
@@ -7,7 +7,7 @@ use Rattle.cm_stream.specs.Readings.{IsReading, Refused}
 use Rattle.cm_stream.specs.References.{cases, is_good_case, run_hooks}
 use Rattle.cm_reasons.specs.Lines.{limited_text}
 use Rattle.cm_reasons.specs.RunReasons.{AreRefusedLines, bad_end, bad_hook_line, hook_causes, line_of_refused}
-use Rattle.cm_causes.specs.Causes.{case_causes, cause_of_case, exception_line}
+use Rattle.cm_causes.specs.Causes.{case_causes, cause_of_case}
 use Rattle.cm_causes.specs.Laws.{CasesHaveLines, ExceptionsHaveLines, HooksHaveLines, SourcesHaveLines}
 use Rattle.cm_causes.proofs.CauseLists.{contains_cases, contains_here, contains_none, contains_there, given_in, kept_in}
 

@@ -1,7 +1,6 @@
 -- The results in what an audit keeps of lines without a fault are those of the lines, also with the end of the run.
-use Rattle.std.proofs.Common.{◌≡◌, refl, sym, ap, subst, List, [], ◌∷◌, ◌++◌, map}
+use Rattle.std.proofs.Common.{◌≡◌, refl, sym, ap, subst, List, map}
 use Rattle.cm_attempt.specs.Calls.{Call, DeclaredCase, cases, result_of}
-use Rattle.cm_attempt.specs.declared.status.Settings.{Settings}
 use Rattle.cm_envelope.specs.declared.envelope.Envelope.TheVariants as envelope
 use Rattle.cm_stream.specs.Calls.{call_of}
 use Rattle.cm_stream.specs.FaultlessLines.{IsFaultlessBy}

@@ -1,15 +1,13 @@
 -- In lines without a fault each source is accepted or refused, and each run hook that ended was started.
-use Rattle.std.proofs.Common.{◌≡◌, ◌∙◌, refl, sym, ap, subst, ℕ, Bool, true, false, not, ◌==◌, ◌||◌, List, [], ◌∷◌, ◌++◌, Option, None, Some, ◌⊎◌, inl, inr}
+use Rattle.std.proofs.Common.{◌≡◌, ◌∙◌, refl, sym, ap, subst, Bool, true, false, not, ◌==◌, List, [], ◌∷◌, ◌++◌, Some, ◌⊎◌, inl, inr}
 use Rattle.std.specs.Prelude.{find, is_some}
-use Rattle.std.specs.List.{AllByRecursion, filter_map, list_any}
+use Rattle.std.specs.List.{AllByRecursion, list_any}
 use Rattle.std.specs.Str.{bytes_eq}
 use Rattle.std.proofs.lemmas.List.Elements.{filter_map-append}
 use Rattle.std.proofs.lemmas.Bool.{not-false}
-use Rattle.cm_attempt.specs.declared.status.Settings.{Settings}
 use Rattle.cm_envelope.specs.declared.envelope.Envelope.{Envelope}
 use Rattle.cm_envelope.specs.declared.envelope.Envelope.TheVariants as envelope
 use Rattle.cm_envelope.specs.declared.envelope.Source.{Source}
-use Rattle.cm_envelope.specs.declared.envelope.TestRunFinished.{TestRunFinished}
 use Rattle.cm_envelope.specs.declared.envelope.TestRunHookFinished.{TestRunHookFinished}
 use Rattle.cm_envelope.specs.declared.envelope.TestRunHookStarted.{TestRunHookStarted}
 use Rattle.cm_stream.specs.Checks.{is_other_language, is_too_long, refers_to_unknown}
@@ -17,14 +15,13 @@ use Rattle.cm_stream.specs.Good.{IsAccepted}
 use Rattle.cm_stream.specs.OnePass.{reads}
 use Rattle.cm_stream.specs.Readings.{Reading, Accepted, Refused, OtherLanguage, TooLong, IsReading}
 use Rattle.cm_stream.specs.References.{RunHook, as_run_hook, as_run_hook_end, as_source, run_hook_ends, run_hooks, sources, times_declared}
-use Rattle.cm_stream.specs.Texts.{Utf8}
 use Rattle.cm_stream.proofs.ByGrammar.{by_the_grammar}
 use Rattle.cm_stream.proofs.Declared.{declares_run_hook, known, source_is}
 use Rattle.cm_stream.proofs.Found.{each_found}
 use Rattle.cm_stream.proofs.Lists.{found_any, found_more, or_no}
 use Rattle.cm_stream.proofs.OnePass.{is_read}
 use Rattle.cm_stream.proofs.Passing.{AllPass, LinePasses, no_unknown, plain_passes}
-use Rattle.cm_causes.specs.Laws.{AreKnown, EndsAreKnown, FaultlessAreKnown, FaultlessAreKnownBy}
+use Rattle.cm_causes.specs.Laws.{EndsAreKnown, FaultlessAreKnown, FaultlessAreKnownBy}
 use Rattle.cm_causes.proofs.CauseLists.{any_more}
 
 -- a text that is neither too long nor in another language

@@ -1,6 +1,6 @@
 -- That nothing failed is told exactly where all is well.
 use Rattle.std.proofs.Common.{◌≡◌, ◌∙◌, refl, sym, ap, ℕ, ◌-◌, Bool, true, false, not, List, [], ◌∷◌, ◌++◌, Option, None, Some, ⊎_elim, append_assoc, arith, map, length, take}
-use Rattle.std.specs.Prelude.{◌↔◌, option_map}
+use Rattle.std.specs.Prelude.{option_map}
 use Rattle.std.specs.List.{AllByRecursion, filter_map}
 use Rattle.cm_attempt.specs.Calls.{result_of}
 use Rattle.cm_attempt.specs.declared.status.Policy.{Policy}
@@ -15,7 +15,7 @@ use Rattle.cm_stream.specs.References.{cases, is_good_case, run_hooks, sources}
 use Rattle.cm_stream.specs.Texts.{Utf8}
 use Rattle.std.specs.List.{filter}
 use Rattle.cm_reasons.specs.Lines.{text_of_lines, limited_text, more_text}
-use Rattle.cm_reasons.specs.RunReasons.{AreRefusedLines, bad_end, bad_hook_line, hook_causes, line_of_refused}
+use Rattle.cm_reasons.specs.RunReasons.{AreRefusedLines, bad_end, bad_hook_line, hook_causes}
 use Rattle.cm_causes.specs.Causes.{IsCauses, case_causes, cause_of_case, exception_line, nothing_failed, result_line, told_causes}
 use Rattle.cm_causes.specs.Laws.{NothingFailedIsAllWell}
 use Rattle.cm_causes.proofs.Shown.{first_shown}

@@ -1,5 +1,5 @@
 -- What is shown of no lines, and of some.
-use Rattle.std.proofs.Common.{◌≡◌, ◌∙◌, refl, sym, ap, ℕ, ◌-◌, List, [], ◌∷◌, ◌++◌, append_assoc, length, take}
+use Rattle.std.proofs.Common.{◌≡◌, ◌∙◌, refl, sym, ℕ, ◌-◌, List, [], ◌∷◌, ◌++◌, append_assoc, length, take}
 use Rattle.cm_envelope.specs.Lines.{line_feed}
 use Rattle.cm_reasons.specs.Lines.{text_of_lines, limited_text, more_text}
 

@@ -1,5 +1,5 @@
 -- There is a cause exactly where not all is well.
-use Rattle.std.proofs.Common.{◌≡◌, ◌∙◌, refl, sym, ap, subst, ℕ, Bool, true, false, not, List, [], ◌∷◌, ◌++◌, Option, None, Some, ◌⊎◌, inl, inr, ⊎_elim, map}
+use Rattle.std.proofs.Common.{◌≡◌, ◌∙◌, refl, sym, ap, subst, ℕ, Bool, true, false, not, List, [], ◌∷◌, ◌++◌, None, Some, ◌⊎◌, ⊎_elim, map}
 use Rattle.std.specs.Prelude.{◌↔◌, find}
 use Rattle.std.specs.List.{AllByRecursion, filter, list_any}
 use Rattle.std.specs.Str.{bytes_eq}
@@ -8,7 +8,6 @@ use Rattle.std.proofs.lemmas.List.{map-append}
 use Rattle.std.proofs.lemmas.List.Elements.{filter-append}
 use Rattle.cm_attempt.specs.Table.{is_good_status}
 use Rattle.cm_attempt.specs.declared.status.Policy.{Policy}
-use Rattle.cm_attempt.specs.declared.status.Settings.{Settings}
 use Rattle.cm_attempt.specs.declared.status.Status.{Status}
 use Rattle.cm_attempt.proofs.Growing.{all_weaker}
 use Rattle.cm_envelope.specs.declared.envelope.Envelope.{Envelope}
@@ -17,11 +16,10 @@ use Rattle.cm_envelope.specs.declared.envelope.Source.{Source}
 use Rattle.cm_envelope.specs.declared.envelope.TestRunFinished.{TestRunFinished}
 use Rattle.cm_envelope.specs.declared.envelope.TestRunHookFinished.{TestRunHookFinished}
 use Rattle.cm_envelope.specs.declared.envelope.TestRunHookStarted.{TestRunHookStarted}
-use Rattle.cm_stream.specs.Good.{AllWell, Good, IsAccepted}
-use Rattle.cm_stream.specs.Readings.{Reading, Accepted, Refused, IsReading}
-use Rattle.cm_stream.specs.References.{as_run_end, cases, hook_statuses, is_good_case, run_ends, run_hook_ends, run_hooks, run_succeeded, says_success, sources}
+use Rattle.cm_stream.specs.Good.{AllWell, IsAccepted}
+use Rattle.cm_stream.specs.Readings.{Accepted, Refused, IsReading}
+use Rattle.cm_stream.specs.References.{as_run_end, cases, hook_statuses, is_good_case, run_ends, run_hook_ends, run_hooks, says_success, sources}
 use Rattle.cm_stream.specs.Statuses.{kept_status}
-use Rattle.cm_stream.specs.Texts.{Utf8}
 use Rattle.cm_stream.proofs.Found.{each_found, eq_back}
 use Rattle.cm_stream.proofs.Lists.{all_here, any_here, find_none}
 use Rattle.cm_stream.proofs.NoFault.{good_have_no_fault}
@@ -29,7 +27,7 @@ use Rattle.cm_stream.proofs.OnePass.{one_reading}
 use Rattle.cm_stream.proofs.Refuted.{CutAt, cut_at}
 use Rattle.cm_reasons.specs.Lines.{limited_text}
 use Rattle.cm_reasons.specs.RunReasons.{AreRefusedLines, bad_end, bad_hook_line, end_statuses, hook_causes, line_of_refused}
-use Rattle.cm_causes.specs.Causes.{IsCauses, case_causes, cause_of_case, exception_line}
+use Rattle.cm_causes.specs.Causes.{case_causes, cause_of_case, exception_line}
 use Rattle.cm_causes.specs.Laws.{AreKnown, GoodWithoutSuccessHasCause, NoCauseIsAllWell}
 use Rattle.cm_causes.proofs.CauseLists.{all_pass, each_cut, gives_none, none_given, none_left}
 use Rattle.cm_causes.proofs.Known.{faultless_known}

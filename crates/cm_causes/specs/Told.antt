@@ -1,5 +1,5 @@
 -- The cause of a test case by its result, as the code comes to it.
-use Rattle.std.specs.Prelude.{◌≡◌, ℕ, Bool, true, false, not, List, [], ◌++◌, Option, Some, None, codes, if◌then◌else◌}
+use Rattle.std.specs.Prelude.{◌≡◌, ℕ, Bool, true, not, List, [], ◌++◌, Option, Some, None, codes, if◌then◌else◌}
 use Rattle.cm_attempt.specs.Table.{Utf8, is_good_status}
 use Rattle.cm_attempt.specs.declared.status.Policy.{Policy}
 use Rattle.cm_attempt.specs.declared.status.Status.{Status}

@@ -1,7 +1,7 @@
 -- Reading a feature's tree, in which the nodes have ids (Messages: GherkinDocument and its parts). A reading takes the ids
 -- of the nodes before it, and gives what was read and the ids up to its end: a node's number is how many ids are before
 -- its own. Columns aren't read, and are 0; nor are descriptions, comments, fences and keyword types.
-use Rattle.std.specs.Prelude.{◌≡◌, ℕ, ◌^◌, List, [], ◌∷◌, ◌++◌, length, Bool, true, false, not, ◌&&◌, ◌||◌, if◌then◌else◌, nat_lt, nat_le, max, unwrap_or, option_map, Option, Some, None, is_some, option_and_then, Result, Ok, Err, codes}
+use Rattle.std.specs.Prelude.{ℕ, ◌^◌, List, [], ◌∷◌, ◌++◌, length, Bool, true, false, not, ◌&&◌, ◌||◌, if◌then◌else◌, nat_lt, nat_le, max, unwrap_or, option_map, Option, Some, None, is_some, option_and_then, Result, Ok, codes}
 use Rattle.serde_json.specs.Data.{Data, Items, no_items, item}
 use Rattle.serde_json.specs.Find.{as_str, as_object}
 use Rattle.gk_document.specs.declared.tree.Cell.{Cell}

@@ -1,11 +1,11 @@
 -- The step that the record of attempts has due, after lines without a fault, is what the attempt has to go through next by the lines.
-use Rattle.std.proofs.Common.{◌≡◌, ◌∙◌, refl, sym, ap, Bool, true, false, List, [], ◌∷◌, ◌++◌, Option, Some, None, length}
+use Rattle.std.proofs.Common.{◌≡◌, ◌∙◌, refl, sym, ap, Bool, true, false, List, [], ◌∷◌, Option, length}
 use Rattle.std.specs.Prelude.{slice_get, option_map}
 use Rattle.std.specs.Option.{option_and_then}
 use Rattle.cm_attempt.specs.Calls as call
 use Rattle.cm_attempt.specs.Calls.{Call, Move, all_moves}
-use Rattle.cm_attempt.specs.Due.{DueStep, due_at, due_of, due_step}
-use Rattle.cm_attempt.specs.Table.{AttemptRow, Table, Utf8}
+use Rattle.cm_attempt.specs.Due.{due_at, due_of, due_step}
+use Rattle.cm_attempt.specs.Table.{Table, Utf8}
 use Rattle.cm_attempt.specs.declared.track.Cursor.{Cursor}
 use Rattle.cm_attempt.specs.declared.status.Settings.{Settings}
 use Rattle.cm_attempt.proofs.Accepted.{its_steps, tracked}

@@ -1,5 +1,5 @@
 -- The id that makes an envelope a second declaration, by what is kept of lines without a fault, is the one over all of them.
-use Rattle.std.proofs.Common.{◌≡◌, ◌∙◌, refl, sym, ap, List, map, Option, Some}
+use Rattle.std.proofs.Common.{◌≡◌, ◌∙◌, refl, ap, List, map, Option, Some}
 use Rattle.std.specs.Prelude.{if◌then◌else◌, is_some}
 use Rattle.std.specs.Str.{bytes_eq}
 use Rattle.cm_refs.specs.Declarations.{find_pickle}

@@ -1,10 +1,9 @@
 -- What is told of the line that decides, by what is kept of lines without a fault, is what is told of it over all of them.
-use Rattle.std.proofs.Common.{◌≡◌, ◌∙◌, refl, sym, ap, arith, ℕ, ◌+◌, ◌-◌, List, [], ◌∷◌, ◌++◌, Option, length, length-append, option_map}
+use Rattle.std.proofs.Common.{◌≡◌, ◌∙◌, refl, ap, arith, ℕ, ◌+◌, ◌-◌, List, [], ◌∷◌, ◌++◌, length, length-append, option_map}
 use Rattle.std.specs.Prelude.{if◌then◌else◌}
 use Rattle.std.specs.List.{filter}
 use Rattle.std.specs.Str.{bytes_eq}
 use Rattle.std.proofs.lemmas.List.Elements.{filter-append, filter_map-append}
-use Rattle.cm_attempt.specs.Due.{DueStep}
 use Rattle.cm_attempt.specs.declared.status.Settings.{Settings}
 use Rattle.cm_attempt.proofs.Growing.{bytes_same}
 use Rattle.cm_envelope.specs.declared.envelope.Envelope.{Envelope}
@@ -17,8 +16,8 @@ use Rattle.cm_stream.specs.Findings.{Finding, IsBad, IsUnsupported}
 use Rattle.cm_stream.specs.References.{as_start, starts, starts_of}
 use Rattle.cm_stream.specs.Texts.{Utf8}
 use Rattle.cm_fault_reasons.specs.AttemptLines.{due_number, number_line, number_lines, order_lines, start_lines}
-use Rattle.cm_fault_reasons.specs.ToldAt.{lines_at, told_at}
-use Rattle.cm_fault_reasons.specs.ToldKept.{last_number, lines_by, told_by}
+use Rattle.cm_fault_reasons.specs.ToldAt.{lines_at}
+use Rattle.cm_fault_reasons.specs.ToldKept.{last_number, lines_by}
 use Rattle.cm_fault_reasons.specs.Unknown.{told_id, told_lines}
 use Rattle.cm_fault_reasons.proofs.DueSame.{due_same}
 use Rattle.cm_fault_reasons.proofs.DuplicateSame.{duplicate_same}

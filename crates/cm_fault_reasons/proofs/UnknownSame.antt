@@ -1,5 +1,5 @@
 -- The first unknown reference by what is kept of lines without a fault is the one over all of them.
-use Rattle.std.proofs.Common.{ℕ, ◌≡◌, ◌∙◌, refl, sym, ap, Bool, true, false, not, ◌||◌, ◌==◌, List, [], ◌∷◌, ◌++◌, append-nil, map, Option, Some, None}
+use Rattle.std.proofs.Common.{ℕ, ◌≡◌, ◌∙◌, refl, sym, ap, Bool, true, false, not, ◌||◌, List, [], ◌∷◌, ◌++◌, append-nil, map, Option, Some, None}
 use Rattle.std.specs.Prelude.{find, if◌then◌else◌, is_some, option_map}
 use Rattle.std.specs.List.{flat_map, AllByRecursion, list_any}
 use Rattle.std.specs.Option.{option_map_or}
@@ -19,7 +19,7 @@ use Rattle.cm_state.proofs.Tests.{attempt_declared, definition_declared, documen
 use Rattle.cm_stream.specs.ByOnePass.{IsFaultless}
 use Rattle.cm_stream.specs.Calls.{calls_of}
 use Rattle.cm_stream.specs.Record.{table_of_envelopes}
-use Rattle.cm_stream.specs.References.{Attempt, Case, Definition, DocumentOf, HookNamed, Name, PickleNamed, PickleStep, Run, RunHook, SourceOf, Step, as_case, attachment_names, case_of, find_case as case_in, if_any, refers, starts, step_names, test_step_names, times_declared}
+use Rattle.cm_stream.specs.References.{Attempt, Case, Definition, DocumentOf, HookNamed, Name, PickleNamed, PickleStep, Run, RunHook, SourceOf, Step, as_case, attachment_names, find_case as case_in, if_any, refers, starts, step_names, test_step_names}
 use Rattle.cm_attempt.specs.Calls as call
 use Rattle.cm_stream.specs.Texts.{Utf8}
 use Rattle.cm_stream.proofs.CallChecks.{distinct_cases, step_asked}
@@ -29,7 +29,7 @@ use Rattle.cm_stream.proofs.Lists.{or_no}
 use Rattle.cm_stream.proofs.Passing.{AllPass, plain_passes}
 use Rattle.cm_stream.proofs.TableSteps.{AreAccepted, none_is_refused}
 use Rattle.cm_stream.proofs.TableWords.{attempt_told, step_told}
-use Rattle.cm_fault_reasons.specs.Unknown.{ToldName, first_unknown, told_id, told_name}
+use Rattle.cm_fault_reasons.specs.Unknown.{ToldName, first_unknown, told_name}
 use Rattle.cm_fault_reasons.specs.UnknownKept.{attachment_names_by, first_unknown_by, knows, place_names, unknown_among}
 
 module _ (first : ℕ) (es : List Envelope) (pass : AllPass es) (accepted : AreAccepted first es) where

@@ -1,7 +1,6 @@
 -- The first reference of an envelope that isn't declared, by what an audit keeps of the lines before it.
 use Rattle.std.specs.Prelude.{Bool, not, List, [], ◌∷◌, ◌++◌, Option, Some, None, find, is_some, map, option_map}
 use Rattle.std.specs.List.{flat_map}
-use Rattle.std.specs.Option.{option_map_or}
 use Rattle.cm_refs.specs.Declarations.{find_pickle, find_run_hook}
 use Rattle.cm_attempt.specs.Table.{find_attempt, find_case, has_text, steps_of}
 use Rattle.cm_envelope.specs.declared.envelope.Envelope.{Envelope}

@@ -11,7 +11,7 @@
 //! ```
 //!
 //! What the envelope of a line is, is defined in `cm_envelope` (`envelope_of_line`). It is in a crate of its own, since all that
-//! speaks of envelopes needs that definition, and the audit alone reads lines.
+//! speaks of envelopes needs that definition, and only the audit and `results` read lines.
 #![tactic(auto)]
 
 mod fault;

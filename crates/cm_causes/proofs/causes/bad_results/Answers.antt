@@ -1,4 +1,4 @@
-use Rattle.std.proofs.Common.{◌∙◌, ap, sym, Bool, Option, arith, filter, map, take_all}
+use Rattle.std.proofs.Common.{◌∙◌, ap, sym, Bool, Option, filter, map, take_all}
 use Rattle.cm_attempt.specs.Results.{result_view}
 use Rattle.cm_attempt.specs.Table.{Utf8}
 use Rattle.cm_attempt.specs.declared.status.Status.{Status}

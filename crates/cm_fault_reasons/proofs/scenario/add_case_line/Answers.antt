@@ -1,4 +1,4 @@
-use Rattle.std.proofs.Common.{◌∙◌, ◌++◌, ◌∷◌, [], ap, append_assoc, codes, string_bytes, List, ℕ}
+use Rattle.std.proofs.Common.{◌∙◌, ◌++◌, ap, append_assoc, codes, string_bytes, List, ℕ}
 use Rattle.cm_cases.specs.Places.{case_scenario}
 use Rattle.cm_fault_reasons.proofs.scenario.add_case_line.Goals as goal
 

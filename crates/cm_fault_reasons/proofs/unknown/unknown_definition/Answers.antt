@@ -1,5 +1,5 @@
 use Rattle.std.proofs.Common.{◌∙◌, ap, Some}
-use Rattle.std.specs.Prelude.{map, option_map}
+use Rattle.std.specs.Prelude.{option_map}
 use Rattle.cm_audit.specs.State.{summary_of}
 use Rattle.cm_stream.specs.Texts.{Utf8}
 use Rattle.cm_fault_reasons.specs.Unknown.{told_id}

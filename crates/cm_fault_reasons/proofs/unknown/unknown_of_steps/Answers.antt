@@ -1,4 +1,4 @@
-use Rattle.std.proofs.Common.{◌≡◌, ◌∙◌, sym, ◌+◌, Some, None}
+use Rattle.std.proofs.Common.{◌+◌, Some, None}
 use Rattle.cm_audit.specs.State.{summary_of}
 use Rattle.cm_fault_reasons.specs.UnknownKept.{told_view}
 use Rattle.cm_fault_reasons.proofs.UnknownLemmas.{step_more, steps_told}
