@@ -251,7 +251,8 @@ impl<'a> Undefined<'a> {
         cases: &ByText<'_, TextSet<'_>>,
     ) -> Result<Undefined<'a>, AllocError>
         requires starts { HasFirsts (λ s. s.now) (λ s. s) (λ s. s.id) kept.now.starts starts.now }
-        requires cases { HasFirsts (λ s. s) (λ c. c.unmatched) (λ c. c.id) kept.now.cases cases.now }
+        requires cases { HasFirsts (λ s. s) (λ c. c.unmatched) (λ c. c.id) kept.now.cases
+            cases.now }
         ensures count { IfOk result (λ undefined.
             undefined.count ≡ count_by (is_undefined_in policy kept.now) kept.now.finishes) }
         ensures steps { IfOk result (λ undefined.
