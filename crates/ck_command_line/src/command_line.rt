@@ -29,7 +29,7 @@ pub enum CaseForm {
 }
 
 /// What the words ask for.
-#[derive(Debug, Drop)]
+#[derive(Drop)]
 pub enum Choice<'a> {
     /// What a feature file is.
     Parse,

@@ -13,8 +13,8 @@ use Rattle.cm_attempt.specs.Calls.{table_after}
 use Rattle.cm_attempt.specs.Table.{Table, table_from}
 use Rattle.cm_audit.specs.Audit.{audited_at, contents}
 use Rattle.cm_audit.specs.Taking.{TakesEach, TakesStream, TakesUntil, Taking}
-use Rattle.cm_audit.specs.declared.stop.Stop.{Stop}
-use Rattle.cm_audit.specs.declared.stop.Stop.TheVariants as stop
+use Rattle.cm_judge.specs.declared.stop.Stop.{Stop}
+use Rattle.cm_judge.specs.declared.stop.Stop.TheVariants as stop
 use Rattle.cm_stream.specs.Calls.{calls_of}
 use Rattle.cm_stream.specs.CallFaults.{call_fault_of_envelope, call_fault_finding}
 use Rattle.cm_stream.specs.Findings.{Finding, IsBad, NoEnvelope}

@@ -8,8 +8,8 @@ use Rattle.cm_attempt.specs.Table.{Table}
 use Rattle.cm_stream.specs.Results.{first_results_fault}
 use Rattle.cm_stream.specs.declared.laws.Audited.{Audited}
 use Rattle.cm_audit.specs.Audit.{audited_at}
-use Rattle.cm_audit.specs.declared.stop.Stop.{Stop}
-use Rattle.cm_audit.specs.declared.stop.Stop.TheVariants as stop
+use Rattle.cm_judge.specs.declared.stop.Stop.{Stop}
+use Rattle.cm_judge.specs.declared.stop.Stop.TheVariants as stop
 use Rattle.ck_command_line.specs.CommandLine.{ask_results}
 use Rattle.ck_commands.specs.Output.{Report}
 use Rattle.ck_commands.specs.Reading.{HasOutcome, is_failed_attempts_read, report_of_read}

@@ -8,8 +8,8 @@ use Rattle.cm_envelope.specs.declared.feed.Trouble.{Trouble}
 use Rattle.cm_envelope.specs.declared.feed.Trouble.TheVariants.{ReadFailed, Memory}
 use Rattle.cm_attempt.specs.Results.{case_results}
 use Rattle.cm_attempt.specs.Table.{Table}
-use Rattle.cm_audit.specs.declared.stop.Stop.{Stop}
-use Rattle.cm_audit.specs.declared.stop.Stop.TheVariants as stop
+use Rattle.cm_judge.specs.declared.stop.Stop.{Stop}
+use Rattle.cm_judge.specs.declared.stop.Stop.TheVariants as stop
 use Rattle.cm_stream.specs.CallFaults.{call_fault_of_envelope, call_fault_finding}
 use Rattle.cm_stream.specs.Findings.{Finding, IsBad, IsUnsupported, NoEnvelope, stream_fault_named}
 use Rattle.cm_stream.specs.Record.{table_after_envelope}

@@ -19,7 +19,7 @@ use std::alloc::{AllocError, Global};
 use std::hash::RandomState;
 
 /// Why a source gives no document.
-#[derive(Clone, Copy, Debug)]
+#[derive(Clone, Copy)]
 pub(crate) enum FeatureFault {
     /// The text is no feature file.
     Refused(ParseFault),

@@ -377,7 +377,7 @@ fn judge_run<F: Files, R: ByteSource>(
 }
 
 /// What is counted of released runs.
-#[derive(Clone, Copy, PartialEq, Eq, Debug, Drop)]
+#[derive(Clone, Copy, Drop)]
 pub(crate) struct GateCounts {
     /// Test cases.
     pub(crate) cases: u64,

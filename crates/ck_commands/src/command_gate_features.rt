@@ -280,7 +280,7 @@ impl FeatureFile {
 }
 
 /// Why a file can't be read.
-#[derive(Clone, Copy, PartialEq, Eq, Debug, Drop)]
+#[derive(Clone, Copy, Drop)]
 enum FileFault {
     /// It can't be opened, or a read fails.
     ReadFailed,

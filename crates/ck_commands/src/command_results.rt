@@ -14,8 +14,9 @@ ghost use Rattle.ck_commands.specs.declared.report.ExitStatus.TheVariants.{Done}
 use crate::report::{ExitStatus, Report, reported_status, write_report};
 use crate::verdict_report::verdict_report;
 use cm_attempt::Track;
-use cm_audit::{Stop, TakeLines, take_lines, track};
+use cm_audit::{TakeLines, take_lines};
 use cm_envelope::{ByteSink, ByteSource, Trouble, is_blank_line};
+use cm_judge::{Stop, track};
 use cm_reading::read_envelope;
 use cm_stream::Audited;
 use std::alloc::{AllocError, Global};

@@ -77,7 +77,7 @@ impl Policy {
 
 /// By what a stream is judged: which statuses are good, the number of each test case's first attempt, which is 0 by the schema
 /// of the Messages, and whether hooks and step definitions may be declared again, by the id that they have.
-#[derive(Clone, Copy, Debug, Drop, PartialEq, Eq)]
+#[derive(Clone, Copy, Drop)]
 pub struct Settings {
     pub policy: Policy,
     pub first_attempt: u64,

@@ -32,14 +32,14 @@ use std::marker::Model;
 
 /// The result of a case: the worst status of its final attempt, which is one that ended and is not retried, and none where
 /// there is no such attempt.
-#[derive(Clone, Copy, Debug)]
+#[derive(Clone, Copy)]
 pub struct CaseResult<'a> {
     pub id: &'a str,
     pub status: Option<Status>,
 }
 
 /// The next step of an attempt, and whether it is running.
-#[derive(Clone, Copy, Debug)]
+#[derive(Clone, Copy)]
 pub struct DueStep<'a> {
     pub step: &'a str,
     pub is_running: bool,
@@ -308,7 +308,7 @@ impl Track {
 }
 
 /// The state of the last attempt of a case.
-#[derive(Clone, Copy, Debug, PartialEq, Eq)]
+#[derive(Clone, Copy)]
 pub enum Last {
     NotStarted,
     Open,
@@ -318,7 +318,7 @@ pub enum Last {
 
 /// How far an open attempt has come: the number of its finished steps, and whether the next one
 /// is running.
-#[derive(Clone, Copy, Debug, PartialEq, Eq)]
+#[derive(Clone, Copy)]
 pub struct Cursor {
     pub finished: usize,
     pub is_running: bool,

@@ -16,14 +16,14 @@ use Rattle.cm_state.specs.StateChecks.{line_judged_by}
 use Rattle.cm_state.specs.Summary.{Summary, empty_summary}
 use Rattle.cm_audit.specs.Audit.{AnswersAs, ReadsNoFurther, ReadsUpTo, TakesLine, audited_at, contents, judged_line}
 use Rattle.cm_audit.specs.Judging.{HoldNoFault, JudgesAs, JudgesLine, UnlessNoMemory, answer_of_bytes, answer_from_first}
-use Rattle.cm_audit.specs.Stops.{unread_line}
-use Rattle.cm_audit.specs.State.{summary_of}
+use Rattle.cm_judge.specs.Stops.{unread_line}
+use Rattle.cm_judge.specs.State.{summary_of}
 use Rattle.cm_audit.specs.Taking.{StopsAtLine, TakesEach, TakesUntil}
-use Rattle.cm_audit.specs.Watched.{envelope_in}
+use Rattle.cm_judge.specs.Deciding.{envelope_in}
 use Rattle.cm_audit.specs.declared.auditing.Judging.{Judging}
-use Rattle.cm_audit.specs.declared.state.State.{State}
-use Rattle.cm_audit.specs.declared.stop.Stop.{Stop}
-use Rattle.cm_audit.specs.declared.stop.Stop.TheVariants as stop
+use Rattle.cm_judge.specs.declared.state.State.{State}
+use Rattle.cm_judge.specs.declared.stop.Stop.{Stop}
+use Rattle.cm_judge.specs.declared.stop.Stop.TheVariants as stop
 
 -- ---- a line that is taken
 

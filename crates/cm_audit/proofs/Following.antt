@@ -39,13 +39,14 @@ use Rattle.cm_audit.specs.Judging.{DecidesAnswer, FollowsAnswer, JudgesLine, Jud
 use Rattle.cm_audit.specs.Taking.{StopsAtLine, TakesEach, TakesStream}
 use Rattle.cm_stream.specs.OnePass.{reads}
 use Rattle.cm_stream.proofs.OnePass.{is_read as reads_by_the_grammar}
-use Rattle.cm_audit.specs.Watched.{HasLast, IsDecidedAt, IsFollowed, IsWatchedAuditOf, audit_in, envelope_in, envelopes_in, is_of_envelope, judged_in, with_watch}
-use Rattle.cm_audit.specs.State.{summary_of}
+use Rattle.cm_judge.specs.Deciding.{HasLast, IsDecidedAt, envelope_in, envelopes_in, is_of_envelope, judged_in}
+use Rattle.cm_audit.specs.Watched.{IsFollowed, IsWatchedAuditOf, audit_in, with_watch}
+use Rattle.cm_judge.specs.State.{summary_of}
 use Rattle.cm_audit.specs.declared.auditing.Judging.{Judging}
 use Rattle.cm_audit.specs.declared.auditing.WatchedAudit.{WatchedAudit}
-use Rattle.cm_audit.specs.declared.state.State.{State}
-use Rattle.cm_audit.specs.declared.stop.Stop.{Stop}
-use Rattle.cm_audit.specs.declared.stop.Stop.TheVariants as stop
+use Rattle.cm_judge.specs.declared.state.State.{State}
+use Rattle.cm_judge.specs.declared.stop.Stop.{Stop}
+use Rattle.cm_judge.specs.declared.stop.Stop.TheVariants as stop
 use Rattle.cm_audit.proofs.Answering.{judged_all, same_settings, stops_at, troubled}
 use Rattle.cm_audit.proofs.Verdicts.{audit_of, none_at_end}
 

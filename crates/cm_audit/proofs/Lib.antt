@@ -1,14 +1,6 @@
 pub mod Answering
-pub mod Cases
 pub mod Deciding
 pub mod Following
-pub mod Judged
-pub mod KeptRows
-pub mod Parsed
 pub mod Reading
-pub mod Repeats
-pub mod Runs
-pub mod SameLists
-pub mod Skeleton
 pub mod Taking
 pub mod Verdicts

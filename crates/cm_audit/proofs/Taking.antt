@@ -11,7 +11,7 @@ use Rattle.cm_stream.specs.Stream.{feed_of}
 use Rattle.cm_stream.specs.declared.laws.Audited.{Audited}
 use Rattle.cm_audit.specs.Audit.{ReadsNoFurther, audited_at, contents}
 use Rattle.cm_audit.specs.Taking.{TakesEach, TakesStream, TakesUntil, Taking}
-use Rattle.cm_audit.specs.declared.stop.Stop.{Stop}
+use Rattle.cm_judge.specs.declared.stop.Stop.{Stop}
 use Rattle.cm_audit.proofs.Reading.{HasRead, first_lines, lines_then, next_read, next_read_lines, nothing_read, up_to_here}
 
 -- so many lines were given, and each was taken

@@ -16,8 +16,8 @@ use Rattle.cm_stream.proofs.Streams.{answers_are_right}
 use Rattle.cm_state.proofs.Judged.{judged_is_told}
 use Rattle.cm_audit.specs.Audit.{AnswersAs, AnswersTold, GoodAtEnd, GoodAtEndIn, GoodHeard, GoodHeardIn, IsAuditOf, ShowNoFault, audited_at}
 use Rattle.cm_audit.specs.Judging.{answer_of_bytes, HoldNoFault, JudgesAs}
-use Rattle.cm_audit.specs.declared.stop.Stop.{Stop}
-use Rattle.cm_audit.specs.declared.stop.Stop.TheVariants as stop
+use Rattle.cm_judge.specs.declared.stop.Stop.{Stop}
+use Rattle.cm_judge.specs.declared.stop.Stop.TheVariants as stop
 use Rattle.cm_audit.proofs.Deciding.{decides_good, shows_unsupported}
 
 -- ---- a failed read

@@ -17,10 +17,10 @@ use Rattle.cm_stream.specs.declared.laws.Audited.{Audited}
 use Rattle.cm_stream.specs.declared.laws.Verdict.{Verdict}
 use Rattle.cm_stream.specs.declared.laws.Verdict.TheVariants as verdict
 use Rattle.cm_state.specs.StateChecks.{line_judged_by}
-use Rattle.cm_audit.specs.State.{Takes, Refuses, summary_of}
-use Rattle.cm_audit.specs.declared.state.State.{State}
-use Rattle.cm_audit.specs.declared.stop.Stop.{Stop}
-use Rattle.cm_audit.specs.declared.stop.Stop.TheVariants as stop
+use Rattle.cm_judge.specs.State.{Takes, Refuses, summary_of}
+use Rattle.cm_judge.specs.declared.state.State.{State}
+use Rattle.cm_judge.specs.declared.stop.Stop.{Stop}
+use Rattle.cm_judge.specs.declared.stop.Stop.TheVariants as stop
 
 -- ---- the answer
 

@@ -13,10 +13,11 @@ use Rattle.cm_stream.specs.declared.laws.Audited.{Audited}
 use Rattle.cm_state.specs.Summary.{Summary, empty_summary}
 use Rattle.cm_state.specs.ByOnePass.{answer_of_lines}
 use Rattle.cm_audit.specs.Audit.{AnswersAs, Begins, ReadsUpTo, TakesLine, all_written, contents, judged_line}
-use Rattle.cm_audit.specs.Watched.{DecidesVerdict, FollowsGood, envelope_in}
+use Rattle.cm_judge.specs.Deciding.{DecidesVerdict, envelope_in}
+use Rattle.cm_audit.specs.Watched.{FollowsGood}
 use Rattle.cm_audit.specs.declared.auditing.Judging.{Judging}
-use Rattle.cm_audit.specs.declared.stop.Stop.{Stop}
-use Rattle.cm_audit.specs.declared.stop.Stop.TheVariants as stop
+use Rattle.cm_judge.specs.declared.stop.Stop.{Stop}
+use Rattle.cm_judge.specs.declared.stop.Stop.TheVariants as stop
 
 -- the answer line by line, from the first line on, and then for the trouble or the end
 abbrev pub answer_from_first : Settings → List (List ℕ) → Option Trouble → Answer

@@ -7,7 +7,7 @@ use Rattle.cm_envelope.specs.declared.feed.Trouble.TheVariants.{ReadFailed, Memo
 use Rattle.cm_stream.specs.Stream.{feed_of}
 use Rattle.cm_stream.specs.declared.laws.Audited.{Audited}
 use Rattle.cm_audit.specs.Audit.{Begins, ReadsNoFurther, all_written, audited_at, contents}
-use Rattle.cm_audit.specs.declared.stop.Stop.{Stop}
+use Rattle.cm_judge.specs.declared.stop.Stop.{Stop}
 
 -- what is made of a line: from one state, by the line, with a result, to another state
 abbrev pub Taking : Type 0 → Type 1

@@ -9,26 +9,16 @@ ghost use Rattle.cm_audit.specs.Audit.{AnswersTold, Audits, DecidesGood, GoodAtE
 ghost use Rattle.cm_audit.specs.Audit.{ShowsUnsupported, TakesLine, judged_line, audited_at, unsuccessful};
 ghost use Rattle.cm_envelope.specs.Feeds.{is_failed_read};
 ghost use Rattle.cm_audit.specs.Judging.{JudgesLine, JudgesWith, RereadsLine, UnlessNoMemory};
-ghost use Rattle.cm_audit.specs.Watched.{HasLast, IsWatchedAuditOf, audit_in, envelope_in, with_watch};
-ghost use Rattle.cm_audit.specs.State.{Takes, summary_of};
+ghost use Rattle.cm_judge.specs.Deciding.{HasLast, envelope_in};
+ghost use Rattle.cm_audit.specs.Watched.{IsWatchedAuditOf, audit_in, with_watch};
+ghost use Rattle.cm_judge.specs.State.{Takes, summary_of};
 ghost use Rattle.cm_state.specs.Summary.{empty_summary};
 ghost use Rattle.cm_envelope.specs.Lines.{max_stream_bytes};
 ghost use Rattle.cm_audit.specs.Taking.{Taking, TakesStream, is_failed_taking};
-ghost use Rattle.std.specs.Prelude.{OnErr};
-ghost use Rattle.cm_stream.specs.CallFaults.{call_fault_of_envelope};
-ghost use Rattle.cm_stream.specs.Record.{table_after_envelope};
-ghost use Rattle.cm_audit.specs.Record.{AnswersRefusal};
 
-use crate::judge::{
-    add_case, finish_attempt, finish_step, judge, judged_as, start_attempt, start_step,
-};
-use crate::state::State;
-use crate::stop::Stop;
-use cm_attempt::{Policy, Settings, Track, TrackFault};
-use cm_envelope::{
-    ByteSource, Envelope, EnvelopeFault, Feed, TestCase, TestCaseFinished, TestCaseStarted,
-    TestStepFinished, TestStepStarted, Trouble, is_blank_line,
-};
+use cm_attempt::{Policy, Settings};
+use cm_envelope::{ByteSource, Envelope, EnvelopeFault, Feed, Trouble, is_blank_line};
+use cm_judge::{State, Stop, judge, judged_as};
 use cm_reading::read_envelope;
 use cm_stream::{Audited, StreamFault, Verdict};
 use std::alloc::{AllocError, Global};
@@ -142,9 +132,9 @@ fn audit_lines<R: ByteSource, W: Watch>(
         (R.input source.new).failed_calls }
 {
     match take_lines(alloc, judging, source) {
-        Ok(_) if judging.state.is_finished => Ok(Audited {
+        Ok(_) if judging.state.is_finished() => Ok(Audited {
             verdict: Verdict::Good(judging.state.counts()),
-            success: judging.state.success,
+            success: judging.state.says_success(),
         }),
         Ok(lines) => Ok(unsuccessful(Verdict::Bad {
             line: lines + 1,
@@ -438,31 +428,5 @@ fn audited_at(stop: Stop, line: u64) -> Result<Audited, Trouble>
         Stop::Bad(fault) => Ok(unsuccessful(Verdict::Bad { line, fault })),
         Stop::Unsupported(reason) => Ok(unsuccessful(Verdict::Unsupported { line, reason })),
         Stop::Memory => Err(Trouble::Memory),
-    }
-}
-
-/// Takes an envelope into the record of attempts: a test case, or the start or the end of an attempt or of one of its steps.
-/// An envelope of any other kind changes nothing.
-///
-/// # Errors
-/// Why the record refuses it, or `Memory`. The record is then as it was.
-pub fn track(alloc: Global, attempts: &mut Track, envelope: Envelope) -> Result<(), TrackFault>
-    ensures answer { AnswersRefusal envelope (call_fault_of_envelope attempts.old envelope) result }
-    ensures ok { OnOk result (attempts.new ≡ table_after_envelope attempts.old envelope) }
-    ensures err { OnErr result (attempts.new ≡ attempts.old) }
-{
-    match envelope {
-        Envelope::TestCase(case) => {
-            let TestCase { id, test_steps, .. } = case;
-            add_case(alloc, attempts, id, test_steps)
-        }
-        Envelope::TestCaseStarted(started) => start_attempt(attempts, &started),
-        Envelope::TestStepStarted(started) => start_step(attempts, &started),
-        Envelope::TestStepFinished(finished) => finish_step(attempts, &finished),
-        Envelope::TestCaseFinished(finished) => finish_attempt(attempts, &finished),
-        other => {
-            drop(other);
-            Ok(())
-        }
     }
 }

@@ -19,25 +19,15 @@
 //! ```
 //!
 //! `audit_run` is the audit, by settings; `audit_with` and `audit` give its verdict alone, by a policy and by the strict one.
-//! `audit_watched` is the same audit, which a `Watch` goes along with: it is told of each envelope before that is judged. What the
-//! audit keeps of the lines is handed out with the watch at the end, as the `State`. `take_lines` reads a stream line by line for anything that takes
-//! lines (`TakeLines`), as an audit does; a line ends the reading by a `Stop`. `track` takes an envelope into a record of
-//! attempts.
+//! `audit_watched` is the same audit, which a `Watch` goes along with: it is told of each envelope before that is judged. What is
+//! kept of the lines (`State` of `cm_judge`) is handed out with the watch at the end. `take_lines` reads a stream line by line for
+//! anything that takes lines (`TakeLines`), as an audit does; a line ends the reading by a `Stop`.
 #![tactic(auto)]
 
 mod auditing;
-mod due;
-mod judge;
-mod kept_sources;
-mod state;
-mod stop;
 
 pub use auditing::{
-    TakeLines, Watch, WatchedAudit, audit, audit_run, audit_watched, audit_with, take_lines, track,
+    TakeLines, Watch, WatchedAudit, audit, audit_run, audit_watched, audit_with, take_lines,
 };
 pub use cm_attempt::{Policy, Settings};
 pub use cm_stream::{Audited, Counts, Reason, StreamFault, Verdict};
-pub use due::DuePickles;
-pub use kept_sources::{AcceptedSource, KeptSource, Sources};
-pub use state::State;
-pub use stop::Stop;

@@ -5,7 +5,7 @@ use Rattle.cm_attempt.specs.declared.status.Settings.{Settings}
 use Rattle.cm_cases.specs.Listed.{listing_of}
 use Rattle.cm_stream.specs.declared.laws.Audited.{Audited}
 use Rattle.cm_audit.specs.Audit.{IsAuditOf}
-use Rattle.cm_audit.specs.State.{summary_of}
+use Rattle.cm_judge.specs.State.{summary_of}
 use Rattle.cm_audit.specs.Watched.{FollowsGood}
 use Rattle.cm_audit.specs.declared.auditing.WatchedAudit.{WatchedAudit}
 use Rattle.cm_audit_cases.specs.declared.audited_cases.CaseWatch.{CaseWatch}

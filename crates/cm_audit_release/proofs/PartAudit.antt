@@ -13,7 +13,7 @@ use Rattle.cm_stream.specs.declared.laws.Hold.{Hold}
 use Rattle.cm_stream.specs.declared.laws.Verdict.{Verdict}
 use Rattle.cm_stream.specs.declared.laws.Verdict.TheVariants as verdict
 use Rattle.cm_audit.specs.Audit.{GoodAtEnd, GoodAtEndIn, IsAuditOf}
-use Rattle.cm_audit.specs.State.{summary_of}
+use Rattle.cm_judge.specs.State.{summary_of}
 use Rattle.cm_audit.specs.Watched.{FollowsGood, IsWatchedAuditOf, audit_in}
 use Rattle.cm_audit.specs.declared.auditing.WatchedAudit.{WatchedAudit}
 use Rattle.cm_ran.specs.Marks.{MarksWhatRan}

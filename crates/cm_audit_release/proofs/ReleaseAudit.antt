@@ -17,10 +17,11 @@ use Rattle.cm_stream.specs.declared.laws.Hold.{Hold}
 use Rattle.cm_stream.specs.declared.laws.Verdict.{Verdict}
 use Rattle.cm_stream.specs.declared.laws.Verdict.TheVariants as verdict
 use Rattle.cm_audit.specs.Audit.{GoodAtEnd, GoodAtEndIn, IsAuditOf}
-use Rattle.cm_audit.specs.State.{summary_of}
-use Rattle.cm_audit.specs.Watched.{DecidesVerdict, FollowsGood, IsWatchedAuditOf, audit_in}
+use Rattle.cm_judge.specs.State.{summary_of}
+use Rattle.cm_judge.specs.Deciding.{DecidesVerdict}
+use Rattle.cm_audit.specs.Watched.{FollowsGood, IsWatchedAuditOf, audit_in}
 use Rattle.cm_audit.specs.declared.auditing.WatchedAudit.{WatchedAudit}
-use Rattle.cm_audit.specs.declared.state.State.{State}
+use Rattle.cm_judge.specs.declared.state.State.{State}
 use Rattle.cm_fault_reasons.proofs.AtLine.{told_with}
 use Rattle.cm_fault_reasons.specs.AtLine.{TellsWith}
 use Rattle.cm_release.specs.declared.tally.Tally.{Tally}

@@ -18,9 +18,9 @@ use Rattle.cm_stream.specs.declared.laws.Hold.{Hold}
 use Rattle.cm_stream.specs.declared.laws.Verdict.{Verdict}
 use Rattle.cm_stream.specs.declared.laws.Verdict.TheVariants as verdict
 use Rattle.cm_audit.specs.Audit.{IsAuditOf}
-use Rattle.cm_audit.specs.State.{summary_of}
+use Rattle.cm_judge.specs.State.{summary_of}
 use Rattle.cm_audit.specs.declared.auditing.WatchedAudit.{WatchedAudit}
-use Rattle.cm_audit.specs.declared.state.State.{State}
+use Rattle.cm_judge.specs.declared.state.State.{State}
 use Rattle.cm_fault_reasons.specs.AtLine.{IsToldWith, TellsWith}
 use Rattle.cm_release.specs.Judged.{IsJudged}
 use Rattle.cm_release.specs.Tallied.{IsTallyOf}

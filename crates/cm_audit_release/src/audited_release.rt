@@ -3,7 +3,7 @@ ghost use Rattle.std.specs.Prelude.{◌≡◌, IfOk, Ok, string_bytes, true};
 ghost use Rattle.cm_envelope.specs.Device.{CountsFailure, OfReads};
 ghost use Rattle.cm_envelope.specs.Feeds.{is_failed_read};
 ghost use Rattle.cm_audit.specs.Audit.{GoodAtEnd};
-ghost use Rattle.cm_audit.specs.State.{summary_of};
+ghost use Rattle.cm_judge.specs.State.{summary_of};
 ghost use Rattle.cm_fault_reasons.specs.AtLine.{TellsWith};
 ghost use Rattle.cm_ran.specs.Marks.{marked_texts};
 ghost use Rattle.cm_stream.specs.Release.{conditions_of};
@@ -13,9 +13,10 @@ ghost use Rattle.cm_audit_release.specs.ReleaseAudit.{with_tally};
 ghost use Rattle.cm_audit_release.specs.Watched.{Follows};
 
 use cm_attempt::Settings;
-use cm_audit::{State, Watch, WatchedAudit, audit_watched};
+use cm_audit::{Watch, WatchedAudit, audit_watched};
 use cm_envelope::{ByteSource, Envelope, Trouble};
 use cm_fault_reasons::verdict_told;
+use cm_judge::State;
 use cm_ran::Marks;
 use cm_release::{Judgement, Tally};
 use cm_stream::{Audited, Conditions, Counts, Hold, ReleaseCounts, Verdict};
@@ -24,7 +25,7 @@ use std::hash::RandomState;
 
 /// An audit; of a good stream what is counted of it for a release, why its run isn't to be released, and the lines below that; of
 /// another stream the lines that tell what is wrong with the one that decides, where something is told of it.
-#[derive(Debug, Drop)]
+#[derive(Drop)]
 pub struct AuditedRelease {
     /// What `audit_run` answers.
     pub audited: Audited,

@@ -1,5 +1,6 @@
 mod audits;
 mod causes;
+mod judging;
 mod marks;
 mod places;
 mod reasons;

@@ -11,14 +11,14 @@ use gk_document::{Examples, Location, Row, Rule, Scenario, Sequence, Text};
 use std::alloc::{AllocError, Global};
 
 /// A test case, by the pickle that it names.
-#[derive(Debug, Drop)]
+#[derive(Drop)]
 pub(crate) struct CaseEntry {
     pub(crate) id: Text,
     pub(crate) pickle_id: Text,
 }
 
 /// A pickle, with the last of the nodes that it is made of, and the names of its tags.
-#[derive(Debug, Drop)]
+#[derive(Drop)]
 pub(crate) struct PickleEntry {
     pub(crate) id: Text,
     pub(crate) uri: Text,
@@ -28,21 +28,21 @@ pub(crate) struct PickleEntry {
 }
 
 /// A scenario or a row of examples.
-#[derive(Debug, Drop)]
+#[derive(Drop)]
 pub(crate) struct Place {
     pub(crate) id: Text,
     pub(crate) line: u32,
 }
 
 /// A document, by its scenarios and rows of examples.
-#[derive(Debug, Drop)]
+#[derive(Drop)]
 pub(crate) struct DocumentEntry {
     pub(crate) uri: Text,
     pub(crate) places: Sequence<Place>,
 }
 
 /// What the lines of a stream's cases name, kept envelope by envelope. `starts` are the cases of the attempts.
-#[derive(Debug, Drop)]
+#[derive(Drop)]
 pub struct Listing {
     pub(crate) cases: Sequence<CaseEntry>,
     pub(crate) pickles: Sequence<PickleEntry>,

@@ -39,7 +39,7 @@ use serde::Serializer;
 use std::alloc::{AllocError, Global};
 
 /// What differs in a source's part of a stream, as compact JSON without the ids that are free.
-#[derive(Clone, Debug, PartialEq, Eq, Drop)]
+#[derive(Clone, Drop)]
 pub struct Difference {
     /// The source.
     pub uri: Text,

@@ -4,7 +4,7 @@ use crate::pickle::Pickle;
 use gk_document::{Document, Sequence, Text};
 
 /// What a line of a stream says, as the schema `Envelope` of the Cucumber Messages has it.
-#[derive(Debug, PartialEq, Eq, Drop)]
+#[derive(Drop)]
 pub enum Envelope {
     Source(Source),
     GherkinDocument(GherkinDocument),
@@ -27,7 +27,7 @@ pub enum Envelope {
 }
 
 /// The text of a feature file.
-#[derive(Debug, PartialEq, Eq, Drop)]
+#[derive(Drop)]
 pub struct Source {
     pub uri: Text,
     /// The member `data`.
@@ -37,7 +37,7 @@ pub struct Source {
 
 /// The tree of a feature file. Only what is judged of it is read: columns are 0, descriptions empty, comments none, fences
 /// `Quotes` and keyword types `Unknown`.
-#[derive(Debug, PartialEq, Eq, Drop)]
+#[derive(Drop)]
 pub struct GherkinDocument {
     pub uri: Text,
     pub document: Document,
@@ -46,31 +46,31 @@ pub struct GherkinDocument {
 }
 
 /// A feature file that the producer could not parse.
-#[derive(Debug, PartialEq, Eq, Drop)]
+#[derive(Drop)]
 pub struct ParseError {
     pub source: SourceReference,
 }
 
 /// The feature file that a parse error is of.
-#[derive(Debug, PartialEq, Eq, Drop)]
+#[derive(Drop)]
 pub struct SourceReference {
     pub uri: Text,
 }
 
 /// Code that a step may run.
-#[derive(Debug, PartialEq, Eq, Drop)]
+#[derive(Drop)]
 pub struct StepDefinition {
     pub id: Text,
 }
 
 /// Code that runs around steps, cases or the run.
-#[derive(Debug, PartialEq, Eq, Drop)]
+#[derive(Drop)]
 pub struct Hook {
     pub id: Text,
 }
 
 /// A pickle that is prepared to be run.
-#[derive(Debug, PartialEq, Eq, Drop)]
+#[derive(Drop)]
 pub struct TestCase {
     pub id: Text,
     pub pickle_id: Text,
@@ -79,7 +79,7 @@ pub struct TestCase {
 }
 
 /// A step of a test case. It has exactly one of `hook_id` and `pickle_step_id`.
-#[derive(Debug, PartialEq, Eq, Drop)]
+#[derive(Drop)]
 pub struct TestStep {
     pub id: Text,
     pub hook_id: Option<Text>,
@@ -88,13 +88,13 @@ pub struct TestStep {
 }
 
 /// The start of the run.
-#[derive(Debug, PartialEq, Eq, Drop)]
+#[derive(Drop)]
 pub struct TestRunStarted {
     pub id: Option<Text>,
 }
 
 /// The start of an attempt at a test case.
-#[derive(Debug, PartialEq, Eq, Drop)]
+#[derive(Drop)]
 pub struct TestCaseStarted {
     pub id: Text,
     pub test_case_id: Text,
@@ -103,14 +103,14 @@ pub struct TestCaseStarted {
 }
 
 /// The start of a test step in an attempt.
-#[derive(Debug, PartialEq, Eq, Drop)]
+#[derive(Drop)]
 pub struct TestStepStarted {
     pub test_case_started_id: Text,
     pub test_step_id: Text,
 }
 
 /// The end of a test step in an attempt.
-#[derive(Debug, PartialEq, Eq, Drop)]
+#[derive(Drop)]
 pub struct TestStepFinished {
     pub test_case_started_id: Text,
     pub test_step_id: Text,
@@ -118,20 +118,20 @@ pub struct TestStepFinished {
 }
 
 /// What came of a test step, or of a run hook.
-#[derive(Clone, Copy, Debug, PartialEq, Eq, Drop)]
+#[derive(Clone, Copy, Drop)]
 pub struct TestStepResult {
     pub status: Status,
 }
 
 /// The end of an attempt at a test case.
-#[derive(Debug, PartialEq, Eq, Drop)]
+#[derive(Drop)]
 pub struct TestCaseFinished {
     pub test_case_started_id: Text,
     pub will_be_retried: bool,
 }
 
 /// The start of a hook that runs around the run.
-#[derive(Debug, PartialEq, Eq, Drop)]
+#[derive(Drop)]
 pub struct TestRunHookStarted {
     pub id: Text,
     pub test_run_started_id: Option<Text>,
@@ -139,14 +139,14 @@ pub struct TestRunHookStarted {
 }
 
 /// The end of a hook that runs around the run.
-#[derive(Debug, PartialEq, Eq, Drop)]
+#[derive(Drop)]
 pub struct TestRunHookFinished {
     pub test_run_hook_started_id: Text,
     pub result: TestStepResult,
 }
 
 /// The end of the run.
-#[derive(Debug, PartialEq, Eq, Drop)]
+#[derive(Drop)]
 pub struct TestRunFinished {
     pub test_run_started_id: Option<Text>,
     pub success: bool,
@@ -155,7 +155,7 @@ pub struct TestRunFinished {
 }
 
 /// Data that a test step, an attempt or the run leaves.
-#[derive(Debug, PartialEq, Eq, Drop)]
+#[derive(Drop)]
 pub struct Attachment {
     pub test_case_started_id: Option<Text>,
     pub test_step_id: Option<Text>,

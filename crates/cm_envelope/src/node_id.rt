@@ -9,7 +9,7 @@ use std::marker::Model;
 
 /// The id of a node, which contracts see as the list of its UTF-8 bytes. One of up to 36 bytes takes no piece of memory of its
 /// own, since the ids of a document's nodes stay while its pickles are judged.
-#[derive(Debug, Drop)]
+#[derive(Drop)]
 pub struct NodeId {
     id: KeptText,
 }

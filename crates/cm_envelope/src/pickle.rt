@@ -2,7 +2,7 @@
 use gk_document::{Sequence, Text};
 
 /// A scenario that is ready to be run.
-#[derive(Debug, PartialEq, Eq, Drop)]
+#[derive(Drop)]
 pub struct Pickle {
     pub id: Text,
     pub uri: Text,
@@ -15,14 +15,14 @@ pub struct Pickle {
 }
 
 /// A tag of a pickle, its name with the `@`.
-#[derive(Debug, PartialEq, Eq, Drop)]
+#[derive(Drop)]
 pub struct PickleTag {
     pub name: Text,
     pub ast_node_id: Text,
 }
 
 /// A step of a pickle.
-#[derive(Debug, PartialEq, Eq, Drop)]
+#[derive(Drop)]
 pub struct PickleStep {
     pub id: Text,
     pub text: Text,
@@ -42,29 +42,29 @@ pub enum StepKind {
 }
 
 /// The data table or doc string below a step.
-#[derive(Debug, PartialEq, Eq, Drop)]
+#[derive(Drop)]
 pub enum PickleArgument {
     Table(PickleTable),
     Text(PickleDocString),
 }
 
-#[derive(Debug, PartialEq, Eq, Drop)]
+#[derive(Drop)]
 pub struct PickleTable {
     pub rows: Sequence<PickleRow>,
 }
 
-#[derive(Debug, PartialEq, Eq, Drop)]
+#[derive(Drop)]
 pub struct PickleRow {
     pub cells: Sequence<PickleCell>,
 }
 
-#[derive(Debug, PartialEq, Eq, Drop)]
+#[derive(Drop)]
 pub struct PickleCell {
     pub value: Text,
 }
 
 /// A doc string. An empty media type is none.
-#[derive(Debug, PartialEq, Eq, Drop)]
+#[derive(Drop)]
 pub struct PickleDocString {
     pub content: Text,
     pub media_type: Option<Text>,

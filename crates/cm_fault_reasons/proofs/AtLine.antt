@@ -3,7 +3,7 @@ use Rattle.std.proofs.Common.{◌≡◌, ◌∙◌, ◌<◌, refl, sym, ap, subs
 use Rattle.std.specs.Prelude.{IfSome, IsSomeAnd, ⊤, ◌&&◌, if◌then◌else◌}
 use Rattle.cm_attempt.specs.Results.{case_results}
 use Rattle.cm_attempt.specs.declared.status.Settings.{Settings}
-use Rattle.cm_audit.specs.Watched.{DecidesVerdict, IsDecidedAt, judged_in}
+use Rattle.cm_judge.specs.Deciding.{DecidesVerdict, IsDecidedAt, judged_in}
 use Rattle.cm_envelope.specs.Reading.{fault_named}
 use Rattle.cm_envelope.specs.declared.envelope.Envelope.{Envelope}
 use Rattle.cm_envelope.specs.declared.envelope.Envelope.TheVariants as envelope

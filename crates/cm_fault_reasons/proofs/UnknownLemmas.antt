@@ -14,10 +14,10 @@ use Rattle.cm_stream.specs.References.{Definition, DocumentOf, Name, SourceOf, t
 use Rattle.cm_stream.specs.Texts.{Utf8}
 use Rattle.cm_stream.proofs.CallWords.{some_mapped}
 use Rattle.cm_stream.proofs.Lists.{found_any}
-use Rattle.cm_audit.specs.Kept.{kept_row}
-use Rattle.cm_audit.specs.State.{summary_of}
-use Rattle.cm_audit.specs.declared.kept_sources.KeptSource.{KeptSource}
-use Rattle.cm_audit.specs.declared.state.State.{State}
+use Rattle.cm_judge.specs.Kept.{kept_row}
+use Rattle.cm_judge.specs.State.{summary_of}
+use Rattle.cm_judge.specs.declared.kept_sources.KeptSource.{KeptSource}
+use Rattle.cm_judge.specs.declared.state.State.{State}
 use Rattle.cm_fault_reasons.specs.Unknown.{ToldName, told_id, told_name, told_uri}
 use Rattle.cm_fault_reasons.specs.UnknownKept.{knows, unknown_among}
 

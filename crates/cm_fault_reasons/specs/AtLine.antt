@@ -1,7 +1,7 @@
 -- What is told of the line of a stream that decides, under the answer.
 use Rattle.std.specs.Prelude.{◌≡◌, ◌+◌, ⊤, ℕ, List, [], ◌∷◌, ◌++◌, Option, None, Some, Ok, IsSomeAnd, length}
 use Rattle.cm_attempt.specs.declared.status.Settings.{Settings}
-use Rattle.cm_audit.specs.Watched.{judged_in}
+use Rattle.cm_judge.specs.Deciding.{judged_in}
 use Rattle.cm_envelope.specs.declared.envelope.Envelope.{Envelope}
 use Rattle.cm_state.specs.Summary.{Summary}
 use Rattle.cm_stream.specs.Checks.{fault_by}

@@ -1,6 +1,6 @@
 //! What is told of the line of a stream that decides, under the answer.
 ghost use Rattle.std.specs.Prelude.{◌≡◌, [], IfOk, IsSomeAnd, List, OnOk, string_bytes, ◌++◌, option_map};
-ghost use Rattle.cm_audit.specs.State.{summary_of};
+ghost use Rattle.cm_judge.specs.State.{summary_of};
 ghost use Rattle.cm_envelope.specs.declared.envelope.Envelope.{Envelope as SomeEnvelope};
 ghost use Rattle.cm_stream.specs.Findings.{IsBad, stream_fault_named};
 ghost use Rattle.cm_fault_reasons.specs.Added.{Adds};
@@ -20,10 +20,10 @@ use crate::scenario::{add_declared_scenario, add_misnumbered, add_started};
 use crate::steps::{add_order, add_step_status};
 use crate::unknown::{ToldName, first_unknown};
 use cm_attempt::{Policy, Settings};
-use cm_audit::State;
 use cm_cases::add_shown;
 use cm_causes::add_truth;
 use cm_envelope::Envelope;
+use cm_judge::State;
 use cm_reasons::{Trail, add_open_hooks, add_refused, add_refused_of, add_run_hook};
 use cm_source_reasons::add_source_reasons;
 use cm_stream::{Reason, StreamFault, Verdict};

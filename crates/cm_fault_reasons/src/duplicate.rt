@@ -1,11 +1,11 @@
 //! The id that makes an envelope a second declaration.
 ghost use Rattle.std.specs.Prelude.{◌≡◌, [], IfOk, map, option_map};
-ghost use Rattle.cm_audit.specs.State.{summary_of};
+ghost use Rattle.cm_judge.specs.State.{summary_of};
 ghost use Rattle.cm_fault_reasons.specs.Duplicate.{first_repeat};
 ghost use Rattle.cm_fault_reasons.specs.DuplicateKept.{duplicate_by};
 
-use cm_audit::State;
 use cm_envelope::{Envelope, NodeId, Pickle, PickleStep, TestCase, TestStep};
+use cm_judge::State;
 use indexmap::IndexSet;
 use std::alloc::{AllocError, Global};
 use std::hash::RandomState;

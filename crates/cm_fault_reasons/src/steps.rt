@@ -2,7 +2,7 @@
 ghost use Rattle.std.specs.Prelude.{◌≡◌, ◌++◌, ◌∷◌, [], List, OnOk, codes, option_map, string_bytes};
 ghost use Rattle.std.specs.Option.{option_map_or};
 ghost use Rattle.cm_attempt.specs.Due.{due_step, due_view};
-ghost use Rattle.cm_audit.specs.State.{summary_of};
+ghost use Rattle.cm_judge.specs.State.{summary_of};
 ghost use Rattle.cm_envelope.specs.Lines.{line_feed};
 ghost use Rattle.cm_envelope.specs.declared.envelope.Envelope.{Envelope as SomeEnvelope};
 ghost use Rattle.cm_reasons.specs.Trail.{trail_of};
@@ -11,8 +11,8 @@ ghost use Rattle.cm_fault_reasons.specs.AttemptLines.{move_word, order_at, order
 
 use crate::scenario::add_scenario_start;
 use cm_attempt::DueStep;
-use cm_audit::State;
 use cm_envelope::Envelope;
+use cm_judge::State;
 use cm_reasons::{Trail, add_run_hook};
 use std::alloc::{AllocError, Global};
 use std::hash::RandomState;

@@ -1,19 +1,19 @@
 //! The first reference of an envelope that isn't declared.
 ghost use Rattle.std.specs.Prelude.{◌≡◌, ◌∷◌, ◌++◌, [], None, Some, find, if◌then◌else◌, map, not, option_map};
 ghost use Rattle.std.specs.List.{flat_map};
-ghost use Rattle.cm_audit.specs.State.{summary_of};
+ghost use Rattle.cm_judge.specs.State.{summary_of};
 ghost use Rattle.cm_attempt.specs.Table.{has_text};
 ghost use Rattle.cm_state.specs.StateChecks.{knows_run};
 ghost use Rattle.cm_stream.specs.References.{Definition, HookNamed, PickleNamed, PickleStep, Run, SourceOf, DocumentOf, if_any, test_step_names};
 ghost use Rattle.cm_fault_reasons.specs.Unknown.{told_id, told_uri};
 ghost use Rattle.cm_fault_reasons.specs.UnknownKept.{attachment_names_by, first_unknown_by, place_names, refers_of_case, told_view, unknown_among};
 
-use cm_audit::State;
 use cm_envelope::{Attachment, Envelope, Pickle, TestCase, TestRunHookStarted, TestStep};
+use cm_judge::State;
 use gk_document::Text;
 
 /// A text of a line, and whether it is a uri; otherwise it is an id.
-#[derive(Clone, Copy, Debug)]
+#[derive(Clone, Copy)]
 pub(crate) struct ToldName<'a> {
     pub(crate) is_uri: bool,
     pub(crate) text: &'a str,

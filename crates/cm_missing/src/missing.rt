@@ -92,7 +92,7 @@ fn read_file(alloc: Global, text: Option<&str>) -> Result<Result<Document, Parse
 
 /// What is missing of the files so far: the lines of the first hundred findings, how many there are, how many pickles the texts
 /// compile to, and how many of these did not run and may be left out.
-#[derive(Debug, Drop)]
+#[derive(Drop)]
 pub struct Missing {
     text: String,
     count: u64,

@@ -277,7 +277,7 @@ pub fn stepless_text(
 }
 
 /// A step of a test case, by the ids of both.
-#[derive(Clone, Copy, Debug, PartialEq, Eq, Hash, Drop)]
+#[derive(Clone, Copy, PartialEq, Eq, Hash, Drop)]
 pub struct CaseStep<'a> {
     pub case: &'a str,
     pub step: &'a str,

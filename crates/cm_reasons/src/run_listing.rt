@@ -12,28 +12,28 @@ use gk_document::{Sequence, Text};
 use std::alloc::{AllocError, Global};
 
 /// A source, by its uri and its text.
-#[derive(Debug, Drop)]
+#[derive(Drop)]
 pub(crate) struct SourceEntry {
     pub(crate) uri: Text,
     pub(crate) content: Text,
 }
 
 /// The start of a run hook, with the id of the hook that runs.
-#[derive(Debug, Drop)]
+#[derive(Drop)]
 pub(crate) struct RunHookEntry {
     pub(crate) id: Text,
     pub(crate) hook_id: Text,
 }
 
 /// The end of a run hook, by the id that its start has.
-#[derive(Debug, Drop)]
+#[derive(Drop)]
 pub(crate) struct RunHookEnd {
     pub(crate) run_hook: Text,
     pub(crate) status: Status,
 }
 
 /// What the lines of a stream's sources and run hooks name, kept envelope by envelope.
-#[derive(Debug, Drop)]
+#[derive(Drop)]
 pub struct RunListing {
     pub(crate) sources: Sequence<SourceEntry>,
     pub(crate) hooks: Sequence<RunHookEntry>,

@@ -14,7 +14,7 @@ use std::alloc::{AllocError, Global};
 use std::hash::RandomState;
 
 /// What the reasons of a stream name, kept envelope by envelope.
-#[derive(Debug, Drop)]
+#[derive(Drop)]
 pub struct Trail {
     pub(crate) listing: Listing,
     pub(crate) steps: StepListing,

@@ -21,7 +21,7 @@ use std::hash::RandomState;
 
 /// What is counted of a good run for its release, why it isn't to be released, and the lines below that; of a stream that isn't
 /// good the lines alone.
-#[derive(Debug, Drop)]
+#[derive(Drop)]
 pub struct Judgement {
     pub found: ReleaseCounts,
     pub hold: Option<Hold>,

@@ -76,7 +76,7 @@ impl Tally {
 }
 
 /// A pickle, with the names of its tags.
-#[derive(Debug, Drop)]
+#[derive(Drop)]
 pub(crate) struct PickleEntry {
     pub(crate) id: Text,
     pub(crate) tags: Sequence<Text>,
@@ -85,7 +85,7 @@ pub(crate) struct PickleEntry {
 
 /// A test case, by the pickle that it names, with the ids of those of its steps that are of a pickle and that no step
 /// definition matches.
-#[derive(Debug, Drop)]
+#[derive(Drop)]
 pub(crate) struct CaseEntry {
     pub(crate) id: Text,
     pub(crate) pickle_id: Text,
@@ -93,14 +93,14 @@ pub(crate) struct CaseEntry {
 }
 
 /// The start of an attempt at a case.
-#[derive(Debug, Drop)]
+#[derive(Drop)]
 pub(crate) struct StartEntry {
     pub(crate) id: Text,
     pub(crate) case_id: Text,
 }
 
 /// The end of a step of an attempt that passed, or that is pending.
-#[derive(Debug, Drop)]
+#[derive(Drop)]
 pub(crate) struct FinishEntry {
     pub(crate) attempt_id: Text,
     pub(crate) step_id: Text,
@@ -108,7 +108,7 @@ pub(crate) struct FinishEntry {
 }
 
 /// What is kept of a stream's envelopes for its release. `skips` are the attempts of the steps that were skipped.
-#[derive(Debug, Drop)]
+#[derive(Drop)]
 pub(crate) struct Kept {
     pub(crate) pickles: Sequence<PickleEntry>,
     pub(crate) cases: Sequence<CaseEntry>,

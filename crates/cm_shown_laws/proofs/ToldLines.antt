@@ -23,7 +23,7 @@ use Rattle.cm_stream.specs.References.{as_document, as_source, documents_of, has
 use Rattle.cm_stream.specs.Sources.{DuePickle, is_due}
 use Rattle.cm_stream.specs.Stream.{envelope_unless_blank}
 use Rattle.cm_stream.specs.Texts.{Utf8}
-use Rattle.cm_audit.specs.Watched.{envelope_in, envelopes_in, judged_in}
+use Rattle.cm_judge.specs.Deciding.{envelope_in, envelopes_in, judged_in}
 use Rattle.cm_source_reasons.specs.SourceReasons.{due_line, uri_line}
 use Rattle.cm_differs.specs.Differences.{pickle_difference}
 use Rattle.cm_differs.specs.DuePickles.{due_pickle}

@@ -46,7 +46,7 @@ use Rattle.cm_reasons.specs.declared.trail.Trail.{Trail}
 use Rattle.cm_differs.specs.Differences.{IsTreeDifference, pickle_difference}
 use Rattle.cm_differs.specs.DuePickles.{due_pickle}
 use Rattle.cm_differs.specs.declared.difference.Difference.{Difference}
-use Rattle.cm_audit.proofs.Judged.{no_by, yes_by}
+use Rattle.cm_judge.proofs.Judged.{no_by, yes_by}
 use Rattle.cm_source_reasons.specs.Deciding.{IsDeciding}
 use Rattle.cm_source_reasons.specs.SourceKept.{TellsAtTree, TellsKept, TellsTree, difference_lines, lack_lines, lack_lines_by, lines_at_pickle, pickle_reason_text_by}
 use Rattle.cm_source_reasons.specs.SourceReasons.{IsLackReason, IsPickleReason, IsSourceReason, IsTreeReason, due_line, due_scenario, missing_document, missing_lines, missing_pickles, pickle_reason_text, sides_text, uri_line}

@@ -16,10 +16,10 @@ use Rattle.cm_state.specs.StateChecks.{lacks_by}
 use Rattle.cm_state.specs.Summary.{SourceRow}
 use Rattle.cm_differs.specs.Differences.{IsTreeDifference}
 use Rattle.cm_differs.specs.declared.difference.Difference.{Difference}
-use Rattle.cm_audit.specs.Kept.{kept_row, kept_rows}
-use Rattle.cm_audit.specs.declared.kept_sources.KeptSource.{KeptSource}
-use Rattle.cm_audit.proofs.KeptRows.{moved_row}
-use Rattle.cm_audit.proofs.Runs.{lacks_anywhere}
+use Rattle.cm_judge.specs.Kept.{kept_row, kept_rows}
+use Rattle.cm_judge.specs.declared.kept_sources.KeptSource.{KeptSource}
+use Rattle.cm_judge.proofs.KeptRows.{moved_row}
+use Rattle.cm_judge.proofs.Runs.{lacks_anywhere}
 use Rattle.cm_source_reasons.specs.SourceKept.{DiffersInTree, OfFound}
 
 same_due : (o : Option Document) (a b : Document) → o ≡ Some a → o ≡ Some b → a ≡ b

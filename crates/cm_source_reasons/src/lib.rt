@@ -1,7 +1,7 @@
 //! What is told of a line at which a stream of Cucumber Messages isn't what its sources compile to.
 //!
 //! ```
-//! use cm_audit::State;
+//! use cm_judge::State;
 //! use cm_envelope::Envelope;
 //! use cm_reasons::Trail;
 //! use cm_source_reasons::add_source_reasons;

@@ -33,7 +33,7 @@ const HOOK: &str = "h";
 const PICKLE_STEP: &str = "s";
 
 /// An attempt, by its test case and its number.
-#[derive(Debug, Drop)]
+#[derive(Drop)]
 struct StartEntry {
     id: Text,
     case_id: Text,
@@ -41,7 +41,7 @@ struct StartEntry {
 }
 
 /// The end of a step in an attempt.
-#[derive(Debug, Drop)]
+#[derive(Drop)]
 struct FinishEntry {
     attempt: Text,
     step: Text,
@@ -49,7 +49,7 @@ struct FinishEntry {
 }
 
 /// What is told of a stream's steps and attempts, kept envelope by envelope.
-#[derive(Debug, Drop)]
+#[derive(Drop)]
 pub struct StepListing {
     /// Of each test case its id and its pickle's, and of each step its id, what it is of, and the id of that.
     plans: TextRows,
@@ -142,7 +142,7 @@ impl StepListing {
 }
 
 /// The start of an attempt: its test case, and its number from 0.
-#[derive(Clone, Copy, Debug)]
+#[derive(Clone, Copy)]
 pub struct Started<'a> {
     pub case_id: &'a str,
     pub number: u64,

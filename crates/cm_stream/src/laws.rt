@@ -266,7 +266,7 @@ pub enum Hold {
 }
 
 /// What a release asks of a run beyond a good stream that says success.
-#[derive(Debug, Drop)]
+#[derive(Drop)]
 pub struct Conditions<'a> {
     /// The run is a part of what is asked: whether it has a test case, and which pickles have none, isn't asked of it alone.
     pub is_part: bool,

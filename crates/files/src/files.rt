@@ -86,14 +86,14 @@ pub enum EntryKind {
 }
 
 /// A name in a folder, and what stands under it.
-#[derive(Drop, Debug)]
+#[derive(Drop)]
 pub struct Entry {
     pub name: String,
     pub kind: EntryKind,
 }
 
 /// What stands under a path. A link stands for what it leads to.
-#[derive(Drop, Debug)]
+#[derive(Drop)]
 pub enum Look {
     /// A file, or whatever else is no folder.
     File,

@@ -14,7 +14,7 @@ pub struct Location {
 }
 
 /// A tag, its name with the `@`.
-#[derive(Debug, PartialEq, Eq, Drop)]
+#[derive(Drop)]
 pub struct Tag {
     pub node: u64,
     pub location: Location,
@@ -22,7 +22,7 @@ pub struct Tag {
 }
 
 /// A cell of a table row.
-#[derive(Clone, Debug, PartialEq, Eq, Drop)]
+#[derive(Clone, Drop)]
 pub struct Cell {
     /// The cell's text, with the characters that its escapes mean.
     pub value: Text,
@@ -31,7 +31,7 @@ pub struct Cell {
 }
 
 /// A row of a data table or of an examples table.
-#[derive(Debug, PartialEq, Eq, Drop)]
+#[derive(Drop)]
 pub struct Row {
     pub node: u64,
     pub location: Location,
@@ -60,7 +60,7 @@ impl Fence {
 }
 
 /// A doc string. An empty media type is none, as [`media_type`] has it.
-#[derive(Debug, PartialEq, Eq, Drop)]
+#[derive(Drop)]
 pub struct DocString {
     pub location: Location,
     pub media: Option<Text>,
@@ -76,7 +76,7 @@ pub fn media_type(text: Text) -> Option<Text>
 }
 
 /// What is below a step: a data table, or a doc string.
-#[derive(Debug, PartialEq, Eq, Drop)]
+#[derive(Drop)]
 pub enum Argument {
     Table(Sequence<Row>),
     Text(DocString),
@@ -100,7 +100,7 @@ pub enum KeywordType {
 }
 
 /// A step, its keyword with the space that ends it.
-#[derive(Debug, PartialEq, Eq, Drop)]
+#[derive(Drop)]
 pub struct Step {
     pub node: u64,
     pub location: Location,
@@ -111,7 +111,7 @@ pub struct Step {
 }
 
 /// Steps that are run before those of each scenario.
-#[derive(Debug, PartialEq, Eq, Drop)]
+#[derive(Drop)]
 pub struct Background {
     pub node: u64,
     pub location: Location,
@@ -122,14 +122,14 @@ pub struct Background {
 }
 
 /// The table of an examples block.
-#[derive(Debug, PartialEq, Eq, Drop)]
+#[derive(Drop)]
 pub struct ExampleTable {
     pub header: Row,
     pub body: Sequence<Row>,
 }
 
 /// An examples block of a scenario.
-#[derive(Debug, PartialEq, Eq, Drop)]
+#[derive(Drop)]
 pub struct Examples {
     pub node: u64,
     pub location: Location,
@@ -141,7 +141,7 @@ pub struct Examples {
 }
 
 /// A scenario, or a scenario outline where it has examples blocks.
-#[derive(Debug, PartialEq, Eq, Drop)]
+#[derive(Drop)]
 pub struct Scenario {
     pub node: u64,
     pub location: Location,
@@ -154,7 +154,7 @@ pub struct Scenario {
 }
 
 /// A rule with its background and scenarios.
-#[derive(Debug, PartialEq, Eq, Drop)]
+#[derive(Drop)]
 pub struct Rule {
     pub node: u64,
     pub location: Location,
@@ -167,7 +167,7 @@ pub struct Rule {
 }
 
 /// The feature of a document.
-#[derive(Debug, PartialEq, Eq, Drop)]
+#[derive(Drop)]
 pub struct Feature {
     pub location: Location,
     pub tags: Sequence<Tag>,
@@ -181,14 +181,14 @@ pub struct Feature {
 }
 
 /// A comment line: the whole line with its indent, at column 1.
-#[derive(Debug, PartialEq, Eq, Drop)]
+#[derive(Drop)]
 pub struct Comment {
     pub location: Location,
     pub text: Text,
 }
 
 /// The tree of a feature file.
-#[derive(Debug, PartialEq, Eq, Drop)]
+#[derive(Drop)]
 pub struct Document {
     /// None where the file has only comments and blank lines.
     pub feature: Option<Feature>,

@@ -157,7 +157,7 @@ pub enum TagFault {
 }
 
 /// A tag of a tag line.
-#[derive(Clone, Copy, Debug, PartialEq, Eq)]
+#[derive(Clone, Copy)]
 pub struct TagText<'a> {
     /// The tag without its `@`.
     pub word: &'a str,

@@ -3,7 +3,7 @@
 use gk_document::{Fence, KeywordType};
 
 /// A line of a feature file, without its line end.
-#[derive(Clone, Copy, Debug, PartialEq, Eq)]
+#[derive(Clone, Copy)]
 pub struct Line<'a> {
     /// The line's number, counted from 1.
     pub number: u32,
@@ -29,7 +29,7 @@ pub enum Block {
 }
 
 /// The title line of a block.
-#[derive(Clone, Copy, Debug, PartialEq, Eq)]
+#[derive(Clone, Copy)]
 pub struct Title<'a> {
     /// The keyword, without its colon.
     pub keyword: &'a str,
@@ -40,7 +40,7 @@ pub struct Title<'a> {
 }
 
 /// The line of a step.
-#[derive(Clone, Copy, Debug, PartialEq, Eq)]
+#[derive(Clone, Copy)]
 pub struct StepLine<'a> {
     /// The keyword, with the space that ends it.
     pub keyword: &'a str,
@@ -52,7 +52,7 @@ pub struct StepLine<'a> {
 }
 
 /// A line that may open or close a doc string.
-#[derive(Clone, Copy, Debug, PartialEq, Eq)]
+#[derive(Clone, Copy)]
 pub struct FenceLine<'a> {
     pub fence: Fence,
     /// The media type, without white space at both ends; it may be empty.

@@ -17,7 +17,7 @@ use gk_document::{
 use std::alloc::{AllocError, Global};
 
 /// A part of a document, with what is inside it.
-#[derive(Clone, Copy, Debug)]
+#[derive(Clone, Copy)]
 pub enum Part<'a> {
     Feature(&'a Feature),
     Rule(&'a Rule),
@@ -261,7 +261,7 @@ impl<'a> Part<'a> {
 }
 
 /// Where two documents first differ: at most one of the two has no part there.
-#[derive(Clone, Copy, Debug)]
+#[derive(Clone, Copy)]
 pub struct FirstDifference<'a> {
     pub expected: Option<Part<'a>>,
     pub found: Option<Part<'a>>,

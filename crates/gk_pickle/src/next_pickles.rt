@@ -96,7 +96,7 @@ impl<'a> PickleSpot<'a> {
 
 /// How far the pickles of a document came: how many of its groups of scenarios (those of the feature itself, and of each rule),
 /// of the next group's scenarios, of the next scenario's blocks, and of the next block's rows.
-#[derive(Clone, Copy, Debug, PartialEq, Eq)]
+#[derive(Clone, Copy)]
 pub struct PicklePlace {
     group: usize,
     scenario: usize,

@@ -9,7 +9,7 @@ use std::alloc::{AllocError, Global};
 use std::hash::{Hash, Hasher};
 
 /// A text of up to 36 bytes, as most ids are, in its own place, and a longer one in a piece of memory.
-#[derive(Debug, Drop)]
+#[derive(Drop)]
 pub enum KeptText {
     Short(ArrayString<36>),
     Long(String),

@@ -1,10 +1,11 @@
 -- How a buffer is cut to texts by their lengths, and those to rows.
 use Rattle.std.specs.Prelude.{ℕ, ◌≡◌, ◌≤◌, IsTrue, List, [], ◌∷◌, drop, length, take}
 use Rattle.std.specs.Str.{is_utf8}
+use Rattle.gk_document.specs.Texts.{Utf8}
 use Rattle.text_rows.specs.declared.rows.RowSize.{RowSize}
 
 -- the texts of these lengths, one after another
-abbrev pub texts_of : (lengths bytes : List ℕ) → List (List ℕ)
+abbrev pub texts_of : (lengths bytes : List ℕ) → List Utf8
 texts_of [] bytes = []
 texts_of (n ∷ ns) bytes = take n bytes ∷ texts_of ns (drop n bytes)
 
@@ -15,7 +16,7 @@ AreTexts (n ∷ ns) bytes =
     (n ≤ length bytes) × IsTrue (is_utf8 (take n bytes)) × AreTexts ns (drop n bytes)
 
 -- rows of texts: of each its first lengths and bytes, one after another
-abbrev pub rows_of : List RowSize → (lengths bytes : List ℕ) → List (List (List ℕ))
+abbrev pub rows_of : List RowSize → (lengths bytes : List ℕ) → List (List Utf8)
 rows_of [] lengths bytes = []
 rows_of (r ∷ rs) lengths bytes =
     texts_of (take r.texts lengths) (take r.bytes bytes)

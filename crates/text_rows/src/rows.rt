@@ -8,14 +8,14 @@ use std::alloc::{AllocError, Global};
 use std::marker::Model;
 
 /// How many texts a row has, and how many bytes they take.
-#[derive(Clone, Copy, Debug)]
+#[derive(Clone, Copy)]
 pub(crate) struct RowSize {
     pub(crate) texts: usize,
     pub(crate) bytes: usize,
 }
 
 /// Rows of texts in order, which contracts see as the list of their lists of texts.
-#[derive(Debug, Drop)]
+#[derive(Drop)]
 pub struct TextRows {
     bytes: String,
     lengths: Vec<u32>,
@@ -34,7 +34,7 @@ impl Model for TextRows {
 }
 
 /// Goes over rows, each as what goes over its texts. Contracts see the list of those that are left.
-#[derive(Debug, Drop)]
+#[derive(Drop)]
 pub struct RowIter<'a> {
     bytes: &'a str,
     lengths: &'a [u32],

@@ -9,7 +9,7 @@ use std::alloc::{AllocError, Global};
 use std::marker::Model;
 
 /// Texts in order, which contracts see as the list of their UTF-8 bytes.
-#[derive(Debug, Drop)]
+#[derive(Drop)]
 pub struct Texts {
     pub(crate) bytes: String,
     pub(crate) lengths: Vec<u32>,
@@ -27,7 +27,7 @@ impl Model for Texts {
 }
 
 /// Goes over texts, each as it was added. Contracts see the list of those that are left.
-#[derive(Debug, Drop)]
+#[derive(Drop)]
 pub struct TextIter<'a> {
     pub(crate) bytes: &'a str,
     pub(crate) lengths: &'a [u32],

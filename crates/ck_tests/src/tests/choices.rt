@@ -11,8 +11,16 @@ fn words_that_ask_for_something(rt: HostRuntime) -> Result<(), Fail> {
     let compile = choose(alloc, &["cukecheck", "compile", "--uri", "a.feature"]);
     assert!(rt; matches!(compile, Ok(Choice::Compile("a.feature"))));
     let audit = choose(alloc, &["cukecheck", "audit", "--pending-passes"]);
-    let lenient = Settings::from(Policy::PendingPasses);
-    assert!(rt; matches!(audit, Ok(Choice::Audit(settings)) if settings == lenient));
+    assert!(rt;
+        matches!(
+            audit,
+            Ok(Choice::Audit(Settings {
+                policy: Policy::PendingPasses,
+                first_attempt: 0,
+                allows_redeclared: false,
+            }))
+        )
+    );
     Ok(())
 }
 

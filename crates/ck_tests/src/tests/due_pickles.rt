@@ -1,8 +1,9 @@
 //! The pickles of a source that didn't come, told by their titles and passed.
 use crate::tests::lines::stream_of;
 use cm_attempt::{Policy, Settings};
-use cm_audit::{KeptSource, Watch, audit_watched};
+use cm_audit::{Watch, audit_watched};
 use cm_envelope::Envelope;
+use cm_judge::KeptSource;
 use devices::Pieces;
 use seeds::fixed_seed;
 use std::alloc::{AllocError, Global};

@@ -4,10 +4,11 @@ use crate::tests::stream::{
 };
 use cm_attempt::{Policy, Settings};
 use cm_audit::{
-    Audited, Counts, Stop, StreamFault, TakeLines, Verdict, audit_run, audit_with, take_lines,
+    Audited, Counts, StreamFault, TakeLines, Verdict, audit_run, audit_with, take_lines,
 };
 use cm_audit_cases::{AuditedCases, audit_cases};
 use cm_envelope::Trouble;
+use cm_judge::Stop;
 use devices::Pieces;
 use seeds::fixed_seed;
 use std::alloc::{AllocError, Global};

@@ -1,8 +1,8 @@
 //! Why a run isn't successful.
 use crate::tests::stream::{envelope_of, trail_of, whole, whole_trail};
 use cm_attempt::{Policy, Status, Track};
-use cm_audit::track;
 use cm_causes::{add_causes, add_truth};
+use cm_judge::track;
 use cm_reasons::Trail;
 use seeds::fixed_seed;
 use std::alloc::{AllocError, Global};

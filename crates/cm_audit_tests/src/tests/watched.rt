@@ -1,9 +1,10 @@
 //! What an audit keeps for who watches it, and what is told of the line that decides.
 use crate::tests::stream::{FEATURE, FIRST_PICKLE, SECOND_PICKLE, envelope_of, joined};
 use cm_attempt::{Policy, Settings};
-use cm_audit::{KeptSource, State, StreamFault, Verdict, Watch, WatchedAudit, audit_watched};
+use cm_audit::{StreamFault, Verdict, Watch, WatchedAudit, audit_watched};
 use cm_envelope::Envelope;
 use cm_fault_reasons::verdict_told;
+use cm_judge::{KeptSource, State};
 use cm_reasons::Trail;
 use cm_source_reasons::add_source_reasons;
 use devices::Pieces;

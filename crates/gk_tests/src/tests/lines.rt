@@ -213,7 +213,11 @@ fn lines_of_a_doc_string_are_added_at_the_end(rt: HostRuntime) -> Result<(), Fai
 }
 
 fn check_fence(rt: &impl Abort, text: &str, wanted: FenceLine<'_>) {
-    assert!(rt; fence(short_line(rt, text)) == Some(wanted));
+    let found = fence(short_line(rt, text));
+    assert!(rt;
+        matches!(found, Some(line) if line.fence == wanted.fence
+        && line.media == wanted.media && line.column == wanted.column)
+    );
 }
 
 #[test]
@@ -233,10 +237,16 @@ fn lines_that_open_a_doc_string(rt: HostRuntime) {
     assert!(rt; fence(short_line(&rt, "``")).is_none());
 }
 
+/// Whether two titles are the same.
+fn is_title(title: Title<'_>, wanted: Title<'_>) -> bool {
+    title.keyword == wanted.keyword && title.name == wanted.name && title.column == wanted.column
+}
+
 fn check_title(rt: &impl Abort, block: Block, text: &str, wanted: Title<'_>) {
-    assert!(rt; title(short_line(rt, text), block) == Some(wanted));
+    let found = title(short_line(rt, text), block);
+    assert!(rt; matches!(found, Some(title) if is_title(title, wanted)));
     let found = block_title(short_line(rt, text));
-    assert!(rt; matches!(found, Some((of, title)) if of == block && title == wanted));
+    assert!(rt; matches!(found, Some((of, title)) if of == block && is_title(title, wanted)));
 }
 
 /// Checks titles of the name x at column 2. A line has the title line, a semicolon, and the keyword.
@@ -294,7 +304,11 @@ fn check_step(rt: &impl Abort, text: &str, keyword: &str, kind: KeywordType) {
         text: "x",
         column: 3,
     };
-    assert!(rt; step(short_line(rt, text)) == Some(wanted));
+    let found = step(short_line(rt, text));
+    assert!(rt;
+        matches!(found, Some(line) if line.keyword == wanted.keyword
+        && line.kind == wanted.kind && line.text == wanted.text && line.column == wanted.column)
+    );
 }
 
 #[test]

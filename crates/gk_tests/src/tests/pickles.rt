@@ -110,6 +110,27 @@ fn told_pickles(alloc: Global, uri: &str, document: &Document) -> Result<String,
     told
 }
 
+/// Whether the same pickle comes next at two places, by its title, or none at either.
+fn same_follows(
+    alloc: Global,
+    document: &Document,
+    one: PicklePlace,
+    other: PicklePlace,
+) -> Result<bool, Fail> {
+    let mut one = one;
+    let mut other = other;
+    let next = next_title(alloc, fixed_seed()?, document, &mut one)?;
+    let wanted = next_title(alloc, fixed_seed()?, document, &mut other)?;
+    let is_same = match (&next, &wanted) {
+        (Some(next), Some(wanted)) => next.name == wanted.name && next.nodes == wanted.nodes,
+        (None, None) => true,
+        _ => false,
+    };
+    drop(next);
+    drop(wanted);
+    Ok(is_same)
+}
+
 /// Whether the pickle at a place is called so and ends at this place, by its title alone and by passing it.
 fn lies_there(
     alloc: Global,
@@ -124,7 +145,8 @@ fn lies_there(
     let is_passed = pass_pickle(document, &mut passed);
     let is_called_so = title.name == pickle.name && title.nodes == pickle.nodes;
     drop(title);
-    Ok(is_called_so && is_passed && titled == to && passed == to)
+    let is_titled = same_follows(alloc, document, titled, to)?;
+    Ok(is_called_so && is_passed && is_titled && same_follows(alloc, document, passed, to)?)
 }
 
 /// The pickles of a document, each made after the one before it.

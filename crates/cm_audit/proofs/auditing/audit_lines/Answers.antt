@@ -4,8 +4,9 @@ use Rattle.cm_audit.proofs.auditing.audit_lines.Goals as goal
 
 pub returns-in-Ok-clause-judged : goal.returns-in-Ok-clause-judged
 returns-in-Ok-clause-judged g c =
-    rw c.counts.ensures
-    (ends_well_with g.W.Watch.follows c.args.judging.now c.requires.nothing c.requires.starts c.take_lines.new.taker _ _ _ (search rules) c.in-Ok.ensures.taken)
+    rw c.says_success.ensures
+    (rw c.counts.ensures
+    (ends_well_with g.W.Watch.follows c.args.judging.now c.requires.nothing c.requires.starts c.take_lines.new.taker _ _ _ (search rules) c.in-Ok.ensures.taken))
 
 pub returns-in-Ok-2-clause-judged : goal.returns-in-Ok-2-clause-judged
 returns-in-Ok-2-clause-judged g c =

@@ -1,5 +1,5 @@
 use Rattle.std.proofs.Common.{◌∙◌, sym, [], ◌∷◌, ◌++◌}
-use Rattle.cm_audit.specs.State.{summary_of}
+use Rattle.cm_judge.specs.State.{summary_of}
 use Rattle.cm_cases.proofs.ListingLemmas.{on_ok}
 use Rattle.cm_stream.specs.Findings.{IsBad, stream_fault_named}
 use Rattle.cm_fault_reasons.specs.ToldKept.{lines_by}

@@ -1,7 +1,7 @@
 use Rattle.std.proofs.Common.{◌≡◌, ◌∙◌, ap, sym, false, true, ◌<◌, get_or, length, map, take, rules, arith, Bor, Some, refl, []}
 use Rattle.std.proofs.lemmas.List.{length-map}
 use Rattle.cm_attempt.specs.Table.{Utf8, has_text}
-use Rattle.cm_audit.proofs.Repeats.{has_text_before, inserted_texts}
+use Rattle.cm_judge.proofs.Repeats.{has_text_before, inserted_texts}
 use Rattle.cm_fault_reasons.proofs.DuplicateLemmas.{stands_before, stands_first, text_at}
 use Rattle.cm_fault_reasons.proofs.duplicate.first_repeat.Goals as goal
 

@@ -1,6 +1,6 @@
 use Rattle.std.proofs.Common.{◌∙◌, ap, sym, ◌++◌, None, Some, false, string_bytes, true}
 use Rattle.cm_attempt.specs.Due.{due_step}
-use Rattle.cm_audit.specs.State.{summary_of}
+use Rattle.cm_judge.specs.State.{summary_of}
 use Rattle.cm_cases.proofs.ListingLemmas.{on_ok}
 use Rattle.cm_envelope.specs.declared.envelope.Envelope.{Envelope}
 use Rattle.cm_stream.specs.Texts.{Utf8}

@@ -2,7 +2,7 @@ use Rattle.std.proofs.Common.{◌≡◌, ◌∙◌, sym, ap, true, false, Option
 use Rattle.std.specs.Prelude.{if◌then◌else◌}
 use Rattle.cm_refs.specs.Declarations.{Declarations}
 use Rattle.cm_attempt.specs.Table.{has_text}
-use Rattle.cm_audit.specs.State.{summary_of}
+use Rattle.cm_judge.specs.State.{summary_of}
 use Rattle.cm_stream.specs.Texts.{Utf8}
 use Rattle.cm_fault_reasons.specs.Unknown.{ToldName, told_uri}
 use Rattle.cm_fault_reasons.proofs.UnknownLemmas.{pickle_told, source_known}

@@ -1,5 +1,5 @@
 use Rattle.std.proofs.Common.{◌+◌, Some, None}
-use Rattle.cm_audit.specs.State.{summary_of}
+use Rattle.cm_judge.specs.State.{summary_of}
 use Rattle.cm_fault_reasons.specs.UnknownKept.{told_view}
 use Rattle.cm_fault_reasons.proofs.UnknownLemmas.{step_more, steps_told}
 use Rattle.cm_fault_reasons.proofs.unknown.unknown_of_steps.Goals as goal

@@ -1,6 +1,6 @@
 use Rattle.std.proofs.Common.{◌≡◌, None, take}
 use Rattle.std.specs.List.{flat_map}
-use Rattle.cm_audit.specs.State.{summary_of}
+use Rattle.cm_judge.specs.State.{summary_of}
 use Rattle.cm_stream.specs.References.{test_step_names}
 use Rattle.cm_fault_reasons.specs.UnknownKept.{unknown_among}
 use Rattle.cm_fault_reasons.proofs.unknown.unknown_of_steps.Given as goal

@@ -1,5 +1,5 @@
 use Rattle.std.proofs.Common.{◌∙◌}
-use Rattle.cm_audit.specs.State.{summary_of}
+use Rattle.cm_judge.specs.State.{summary_of}
 use Rattle.cm_fault_reasons.proofs.UnknownLemmas.{source_known, source_told}
 use Rattle.cm_fault_reasons.proofs.unknown.unknown_source.Goals as goal
 

@@ -1,6 +1,6 @@
 use Rattle.std.proofs.Common.{◌∙◌, sym, ap, append-nil, string_bytes, ◌++◌, List, ℕ}
 use Rattle.cm_cases.proofs.ListingLemmas.{on_ok}
-use Rattle.cm_audit.specs.State.{summary_of}
+use Rattle.cm_judge.specs.State.{summary_of}
 use Rattle.cm_source_reasons.proofs.SourceArms.{no_pickle}
 use Rattle.cm_source_reasons.proofs.source_reasons.add_at_pickle.Goals as goal
 

@@ -5,8 +5,8 @@ use Rattle.kept_texts.specs.declared.kept_text.KeptText.{KeptText}
 use Rattle.cm_cases.proofs.ListingLemmas.{on_ok}
 use Rattle.cm_state.specs.StateChecks.{lacks_by}
 use Rattle.cm_state.specs.Summary.{SourceRow}
-use Rattle.cm_audit.specs.Kept.{kept_row, kept_rows}
-use Rattle.cm_audit.specs.declared.kept_sources.KeptSource.{KeptSource}
+use Rattle.cm_judge.specs.Kept.{kept_row, kept_rows}
+use Rattle.cm_judge.specs.declared.kept_sources.KeptSource.{KeptSource}
 use Rattle.cm_source_reasons.specs.SourceKept.{lack_lines}
 use Rattle.cm_source_reasons.proofs.SourceRows.{entry_row, first_row}
 use Rattle.cm_source_reasons.proofs.source_reasons.add_first_lack.Goals as goal

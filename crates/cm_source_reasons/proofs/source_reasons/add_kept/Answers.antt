@@ -1,6 +1,6 @@
 use Rattle.std.proofs.Common.{sym, append-nil, string_bytes, []}
 use Rattle.cm_cases.proofs.ListingLemmas.{on_ok}
-use Rattle.cm_audit.specs.State.{summary_of}
+use Rattle.cm_judge.specs.State.{summary_of}
 use Rattle.cm_source_reasons.specs.SourceKept.{lack_lines_by, lines_at_pickle}
 use Rattle.cm_source_reasons.proofs.SourceArms.{at_lack, at_pickle, at_tree, no_fault}
 use Rattle.cm_source_reasons.proofs.source_reasons.add_kept.Goals as goal

@@ -5,9 +5,9 @@ use Rattle.cm_envelope.specs.declared.envelope.Envelope.{Envelope}
 use Rattle.cm_stream.specs.Texts.{Utf8}
 use Rattle.gk_document.specs.declared.tree.Document.{Document}
 use Rattle.cm_state.specs.Summary.{SourceRow}
-use Rattle.cm_audit.specs.Kept.{kept_row}
-use Rattle.cm_audit.specs.declared.kept_sources.KeptSource.{KeptSource}
-use Rattle.cm_audit.proofs.KeptRows.{moved_row}
+use Rattle.cm_judge.specs.Kept.{kept_row}
+use Rattle.cm_judge.specs.declared.kept_sources.KeptSource.{KeptSource}
+use Rattle.cm_judge.proofs.KeptRows.{moved_row}
 use Rattle.cm_source_reasons.specs.SourceKept.{lack_by_document, lack_lines}
 use Rattle.cm_source_reasons.specs.SourceReasons.{missing_document, missing_pickles, uri_line}
 use Rattle.cm_source_reasons.proofs.source_reasons.add_lack.Goals as goal

@@ -1,7 +1,7 @@
 use Rattle.std.proofs.Common.{◌≡◌, ◌∙◌, ◌++◌, [], append_assoc, ap, refl, sym, string_bytes, Bor, List, ℕ, None, Option, Some}
 use Rattle.std.specs.Prelude.{option_map, slice_get}
 use Rattle.gk_pickle.specs.Rest.{IsNext}
-use Rattle.cm_audit.specs.Kept.{kept_row}
+use Rattle.cm_judge.specs.Kept.{kept_row}
 use Rattle.cm_envelope.specs.declared.envelope.Envelope.{Envelope}
 use Rattle.cm_envelope.specs.declared.pickle.Pickle.{Pickle}
 use Rattle.cm_stream.specs.Sources.{DuePickle}

@@ -3,8 +3,8 @@ use Rattle.std.specs.Prelude.{slice_get}
 use Rattle.std.specs.Option.{option_map_or}
 use Rattle.cm_cases.proofs.ListingLemmas.{on_ok}
 use Rattle.cm_state.specs.Summary.{SourceRow}
-use Rattle.cm_audit.specs.State.{summary_of}
-use Rattle.cm_audit.proofs.KeptRows.{found_by, found_kept, found_none, moved_row}
+use Rattle.cm_judge.specs.State.{summary_of}
+use Rattle.cm_judge.proofs.KeptRows.{found_by, found_kept, found_none, moved_row}
 use Rattle.cm_source_reasons.specs.SourceReasons.{pickle_reason_text}
 use Rattle.cm_source_reasons.proofs.source_reasons.add_of_pickle.Goals as goal
 

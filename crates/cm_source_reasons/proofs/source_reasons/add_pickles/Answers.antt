@@ -1,6 +1,6 @@
 use Rattle.std.proofs.Common.{◌∙◌, ap, sym, ◌++◌, append-nil, [], string_bytes, ℕ}
 use Rattle.cm_cases.proofs.ListingLemmas.{on_ok}
-use Rattle.cm_audit.specs.Kept.{kept_row}
+use Rattle.cm_judge.specs.Kept.{kept_row}
 use Rattle.cm_reasons.specs.Lines.{more_text}
 use Rattle.cm_source_reasons.proofs.MissingLemmas.{all_told}
 use Rattle.cm_source_reasons.proofs.source_reasons.add_pickles.Goals as goal

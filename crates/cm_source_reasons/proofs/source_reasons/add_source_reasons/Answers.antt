@@ -1,6 +1,6 @@
 use Rattle.cm_cases.proofs.ListingLemmas.{on_ok}
 use Rattle.std.proofs.Common.{[], ◌∷◌, ◌++◌}
-use Rattle.cm_audit.specs.State.{summary_of}
+use Rattle.cm_judge.specs.State.{summary_of}
 use Rattle.cm_source_reasons.proofs.SourceFaults.{source_reason}
 use Rattle.cm_source_reasons.proofs.source_reasons.add_source_reasons.Goals as goal
 

@@ -1,7 +1,7 @@
 use Rattle.std.proofs.Common.{◌≡◌, ◌∙◌, [], sym, ap, Bor, Some}
 use Rattle.std.specs.Prelude.{option_map}
 use Rattle.gk_document.specs.declared.tree.Document.{Document}
-use Rattle.cm_audit.specs.Kept.{kept_row}
+use Rattle.cm_judge.specs.Kept.{kept_row}
 use Rattle.cm_source_reasons.proofs.SourceRows.{tree_by}
 use Rattle.cm_source_reasons.proofs.source_reasons.awaited_difference.Goals as goal
 

@@ -1,8 +1,8 @@
 use Rattle.std.specs.Prelude.{find}
 use Rattle.std.specs.Str.{bytes_eq}
-use Rattle.cm_audit.specs.Kept.{kept_row}
-use Rattle.cm_audit.specs.State.{summary_of}
-use Rattle.cm_audit.proofs.KeptRows.{found_by, found_kept}
+use Rattle.cm_judge.specs.Kept.{kept_row}
+use Rattle.cm_judge.specs.State.{summary_of}
+use Rattle.cm_judge.proofs.KeptRows.{found_by, found_kept}
 use Rattle.cm_source_reasons.specs.SourceKept.{DiffersInTree}
 use Rattle.cm_source_reasons.proofs.SourceRows.{found_row, tree_of}
 use Rattle.cm_source_reasons.proofs.source_reasons.document_difference.Goals as goal

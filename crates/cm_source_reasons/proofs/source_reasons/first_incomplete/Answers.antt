@@ -2,8 +2,8 @@ use Rattle.std.proofs.Common.{◌∙◌, ap, [], Bool, Bor, Option, find, option
 use Rattle.std.specs.Option.{option_or}
 use Rattle.kept_texts.specs.declared.kept_text.KeptText.{KeptText}
 use Rattle.cm_state.specs.StateChecks.{lacks_by}
-use Rattle.cm_audit.specs.Kept.{kept_row}
-use Rattle.cm_audit.specs.declared.kept_sources.KeptSource.{KeptSource}
+use Rattle.cm_judge.specs.Kept.{kept_row}
+use Rattle.cm_judge.specs.declared.kept_sources.KeptSource.{KeptSource}
 use Rattle.cm_source_reasons.proofs.SourceRows.{all_looked_at, one_looked_at}
 use Rattle.cm_source_reasons.proofs.source_reasons.first_incomplete.Goals as goal
 

@@ -1,7 +1,7 @@
 use Rattle.std.proofs.Common.{◌≡◌, [], find, option_map}
 use Rattle.std.specs.Option.{option_or}
 use Rattle.cm_state.specs.StateChecks.{lacks_by}
-use Rattle.cm_audit.specs.Kept.{kept_row}
+use Rattle.cm_judge.specs.Kept.{kept_row}
 use Rattle.cm_source_reasons.proofs.source_reasons.first_incomplete.Given as goal
 
 abbrev pub invariant-loop-uri : goal.invariant-loop-uri

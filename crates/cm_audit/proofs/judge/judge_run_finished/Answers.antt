@@ -1,5 +1,0 @@
-use Rattle.std.proofs.Common.{rules}
-use Rattle.cm_audit.proofs.judge.judge_run_finished.Goals as goal
-
-pub returns : goal.returns
-returns c = search rules

@@ -1,4 +1,0 @@
-use Rattle.cm_audit.proofs.kept_sources.KeptSource.count_pickle.Goals as goal
-
-pub returns-in-Accepted : goal.returns-in-Accepted
-returns-in-Accepted c = λ uri. rw c.in-Accepted.is (c.count_pickle.ensures uri)
