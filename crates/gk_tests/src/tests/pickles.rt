@@ -110,25 +110,32 @@ fn told_pickles(alloc: Global, uri: &str, document: &Document) -> Result<String,
     told
 }
 
-/// Whether the same pickle comes next at two places, by its title, or none at either.
-fn same_follows(
+/// Whether the same pickles follow two places, by their titles, up to the last.
+fn same_follow(
     alloc: Global,
     document: &Document,
     one: PicklePlace,
     other: PicklePlace,
 ) -> Result<bool, Fail> {
+    let seed = fixed_seed()?;
     let mut one = one;
     let mut other = other;
-    let next = next_title(alloc, fixed_seed()?, document, &mut one)?;
-    let wanted = next_title(alloc, fixed_seed()?, document, &mut other)?;
-    let is_same = match (&next, &wanted) {
-        (Some(next), Some(wanted)) => next.name == wanted.name && next.nodes == wanted.nodes,
-        (None, None) => true,
-        _ => false,
-    };
-    drop(next);
-    drop(wanted);
-    Ok(is_same)
+    for _ in 0..100 {
+        let next = next_title(alloc, seed, document, &mut one)?;
+        let wanted = next_title(alloc, seed, document, &mut other)?;
+        let is_over = next.is_none();
+        let is_same = match (&next, &wanted) {
+            (Some(next), Some(wanted)) => next.name == wanted.name && next.nodes == wanted.nodes,
+            (None, None) => true,
+            _ => false,
+        };
+        drop(next);
+        drop(wanted);
+        if is_over || !is_same {
+            return Ok(is_same);
+        }
+    }
+    Err(Fail::from("many titles"))
 }
 
 /// Whether the pickle at a place is called so and ends at this place, by its title alone and by passing it.
@@ -145,8 +152,8 @@ fn lies_there(
     let is_passed = pass_pickle(document, &mut passed);
     let is_called_so = title.name == pickle.name && title.nodes == pickle.nodes;
     drop(title);
-    let is_titled = same_follows(alloc, document, titled, to)?;
-    Ok(is_called_so && is_passed && is_titled && same_follows(alloc, document, passed, to)?)
+    let is_titled = same_follow(alloc, document, titled, to)?;
+    Ok(is_called_so && is_passed && is_titled && same_follow(alloc, document, passed, to)?)
 }
 
 /// The pickles of a document, each made after the one before it.
